@@ -1,0 +1,5 @@
+use Rattle.std.proofs.Common.{◌≡◌, ◌+◌, ◌*◌, ◌/◌, ◌<◌, ◌≤◌, ℕ, ◌-◌, length}
+use Rattle.corr_model.proofs.numbering.pair.Given as goal
+
+abbrev pub invariant-loop-j : goal.invariant-loop-j
+invariant-loop-j l = (2 * l.start ≡ l.j * (l.j + 1)) × (l.start ≤ l.b)
