@@ -1,3 +1,12 @@
 pub mod Plans
 pub mod Baselines
+pub mod Lists
 pub mod Packets
+pub mod Windows
+pub mod Assembly
+pub mod Items
+pub mod Descriptors
+pub mod Tables
+pub mod Streams
+pub mod Visibilities
+pub mod Outputs

@@ -2,7 +2,7 @@
 -- SPEAD protocol definition, version 4: packet header and item pointers, in flavour SPEAD-64-48. That a repeated
 -- special pointer counts where it stands last, and that pointers with ids 0 to 4 are not of the heap, is this
 -- project's own.
-use Rattle.std.specs.Prelude.{◌≡◌, ℕ, zero, suc, ◌+◌, ◌*◌, ◌%◌, ◌-◌, ◌≤◌, Bool, true, false, not, ◌&&◌, ◌||◌, ◌==◌, nat_lt, nat_le, if◌then◌else◌, List, [], ◌∷◌, ◌++◌, length, take, drop, slice_index, map, filter, fold, Option, Some, None, IfSome, Result, Ok, Err, unwrap_or, is_none}
+use Rattle.std.specs.Prelude.{◌≡◌, ℕ, zero, suc, ◌+◌, ◌*◌, ◌%◌, ◌≤◌, Bool, not, ◌&&◌, ◌||◌, ◌==◌, nat_lt, nat_le, if◌then◌else◌, List, [], ◌∷◌, ◌++◌, length, take, drop, slice_index, map, filter, fold, Option, Some, None, IfSome, unwrap_or, is_none}
 use Rattle.std.specs.List.{flat_map, AllByRecursion}
 use Rattle.corr_model.specs.declared.pointer.Pointer.{Pointer}
 use Rattle.corr_model.specs.declared.pointer.Refusal.{Refusal}
