@@ -1,6 +1,7 @@
 -- Kept members of a heap, the cause of a drop, and the whole heap.
 -- SPEAD protocol definition, version 4: a heap's payload is put together from its packets by their heap offsets. Which
--- packets are kept, and that a heap is whole by the sum of their lengths, is this project's own.
+-- packets are kept, that a heap is whole by the sum of their lengths, and that any packet of a heap may carry any of
+-- its pointers, is this project's own.
 use Rattle.std.specs.Prelude.{ℕ, ◌-◌, min, max, Bool, false, not, ◌&&◌, ◌||◌, ◌==◌, nat_lt, nat_le, if◌then◌else◌, List, [], ◌∷◌, ◌++◌, length, map, filter, find, sum_by, slice_index, Option, Some, None, is_none, option_and_then, option_map, unwrap_or}
 use Rattle.std.specs.Option.{option_or}
 use Rattle.std.specs.List.{filter_map, flat_map, list_any}
@@ -21,7 +22,7 @@ sizes_differ (Some m) (Some n) = not (m == n)
 sizes_differ (Some m) None = false
 sizes_differ None n = false
 
--- the end is past the size, where one is said
+-- a size is said, and the end is past it
 abbrev pub is_past : Option ℕ → ℕ → Bool
 is_past None end = false
 is_past (Some size) end = nat_lt size end
@@ -34,7 +35,8 @@ share_a_byte p q = nat_lt (max p.offset q.offset) (min (end_of p) (end_of q))
 abbrev pub pointers_of : List Parts → List Pointer
 pointers_of ps = distinct are_same (flat_map (λ p. p.pointers) ps)
 
--- the first cause for which a member is not kept beside those kept before it
+-- why a member is not kept beside those kept before it, the first that applies: they say different sizes, an end is
+-- past a size, they share a byte, or there would be more than 64 distinct pointers
 abbrev pub drop_cause : List Parts → Parts → Option DropCause
 drop_cause kept p =
     if list_any (λ k. sizes_differ k.size p.size) kept then Some SizeDiffers
@@ -65,11 +67,12 @@ abbrev pub said_size : List Parts → Option ℕ
 said_size [] = None
 said_size (p ∷ ps) = option_or p.size (said_size ps)
 
+-- a size is said, and it is this total
 abbrev pub adds_up : Option ℕ → ℕ → Bool
 adds_up None total = false
 adds_up (Some size) total = size == total
 
--- the payload bytes of these packets
+-- the number of payload bytes of these packets
 abbrev pub payload_bytes : List Parts → ℕ
 payload_bytes ps = sum_by (λ p. length p.payload) ps
 
@@ -77,7 +80,7 @@ payload_bytes ps = sum_by (λ p. length p.payload) ps
 abbrev pub is_complete : List Fate → Bool
 is_complete fates = adds_up (said_size (kept fates)) (payload_bytes (kept fates))
 
--- the members up to and including the first at which the heap is whole
+-- the members up to and including the first at which the heap is whole, if it becomes whole
 abbrev pub whole_front : List Placed → Option (List Fate)
 whole_front ms = find is_complete (fronts (fates ms))
 
@@ -85,6 +88,7 @@ whole_front ms = find is_complete (fronts (fates ms))
 abbrev pub holds_byte : ℕ → Parts → Bool
 holds_byte k p = nat_le p.offset k && nat_lt k (end_of p)
 
+-- byte k of the heap as this packet brings it; 0 where there is none
 abbrev pub byte_of : ℕ → Option Parts → ℕ
 byte_of k None = 0
 byte_of k (Some p) = slice_index p.payload (k - p.offset)
@@ -109,6 +113,7 @@ pub data Standing : Type 0 where
   Whole : (front : List Fate) → Standing  -- it is whole at this member
   After : Standing  -- it was whole before
 
+-- whole at the last of so many members, whole before it, or not yet
 abbrev pub standing_by : ℕ → Option (List Fate) → Standing
 standing_by count None = Before
 standing_by count (Some front) = if length front == count then Whole front else After
@@ -117,15 +122,17 @@ standing_by count (Some front) = if length front == count then Whole front else 
 abbrev pub standing : List Placed → Standing
 standing ms = standing_by (length ms) (whole_front ms)
 
--- the members, up to and including q, of the heap of which q is one
+-- of these packets, the members of the heap of which q is one; none where q is of no heap
 abbrev pub members_with : ℕ → List Placed → Placed → List Placed
 members_with window ps q = unwrap_or (option_map (members window ps) (opening_of window ps q)) []
 
+-- the heap of this counter, where it is whole at just this member
 abbrev pub heap_at : ℕ → Standing → Option WholeHeap
 heap_at counter Before = None
 heap_at counter (Whole front) = Some (heap_of counter (kept front))
 heap_at counter After = None
 
+-- the heap that is whole at q, the last of these packets, if one is
 abbrev pub whole_with : ℕ → List Placed → Placed → Option WholeHeap
 whole_with window ps q = heap_at q.packet.counter (standing (members_with window ps q))
 

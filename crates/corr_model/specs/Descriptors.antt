@@ -40,7 +40,8 @@ item_type entry = record { letter = slice_index entry 0; bits = big (drop 1 entr
 abbrev pub is_letter : ℕ → Bool
 is_letter c = (c == 117) || (c == 105) || (c == 99)
 
--- the refusals after the packet's own, the first that applies
+-- the refusals after that of the packet, the first that applies: NoId, ShapeBytes, TypeBytes, NoType, Letter, Bits,
+-- TooMany
 abbrev pub form_refusal : Option ℕ → ℕ → ℕ → List ItemType → Option DescRefusal
 form_refusal id shape_bytes type_bytes types =
     if not (nat_le 1 (unwrap_or id 0) && nat_le (unwrap_or id 0) 0x7fffff) then Some NoId
@@ -52,6 +53,7 @@ form_refusal id shape_bytes type_bytes types =
     else (if nat_lt 56 shape_bytes || nat_lt 24 type_bytes then Some TooMany
     else None))))))
 
+-- the refusal, if there is one, else the described item
 abbrev pub or_refused : Option DescRefusal → DescribedItem → Result DescribedItem DescRefusal
 or_refused None d = Ok d
 or_refused (Some e) d = Err e
@@ -83,6 +85,7 @@ read_group g =
       name = take 64 (bytes_of g 0x10);
     })
 
+-- refused as a packet where that has a refusal, else what the packet says of an item
 abbrev pub read_unless : Option Refusal → List ℕ → Result DescribedItem DescRefusal
 read_unless (Some e) bytes = Err (Packet e)
 read_unless None bytes = read_group (own_group (parts_in bytes))
@@ -117,6 +120,7 @@ abbrev pub dimension_bytes : Dim → List ℕ
 dimension_bytes (Fixed n) = 0 ∷ bytes_high_first 6 n
 dimension_bytes Variable = 1 ∷ bytes_high_first 6 0
 
+-- a packet with this id as an immediate item, and with name, types and shape as addressed items
 abbrev pub descriptor_packet : ℕ → List ℕ → List ℕ → List ℕ → List ℕ
 descriptor_packet id name types shape =
     let size = length name + length types + length shape in

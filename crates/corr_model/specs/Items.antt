@@ -1,6 +1,8 @@
 -- The items of a heap.
 -- SPEAD protocol definition, version 4: immediate and addressed items; an addressed item reaches to the next item's
--- offset. The rule for two items at one offset, and that the first pointer of an id counts, is this project's own.
+-- offset. The rule for two items at one offset, that the first pointer of an id counts, that a number is an immediate
+-- value of all its bits or one to eight addressed bytes, and that a descriptor content that is none counts as empty, is
+-- this project's own.
 use Rattle.std.specs.Prelude.{ℕ, ◌+◌, min, not, ◌&&◌, ◌==◌, nat_lt, nat_le, if◌then◌else◌, List, [], length, drop, map, filter, find, fold, slice_range, Option, Some, None, option_and_then, unwrap_or}
 use Rattle.std.specs.List.{list_any, enumerate_from}
 use Rattle.corr_model.specs.declared.pointer.Pointer.{Pointer}

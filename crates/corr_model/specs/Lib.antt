@@ -10,3 +10,11 @@ pub mod Tables
 pub mod Streams
 pub mod Visibilities
 pub mod Outputs
+pub mod Built
+pub mod BuiltExamples
+pub mod Examples
+pub mod ExamplesOutput
+pub mod ExamplesWindows
+pub mod ExamplesVerdicts
+pub mod ExamplesDescriptors
+pub mod ExamplesCorrelation

@@ -20,7 +20,7 @@ through_first test (x ∷ xs) = x ∷ (if test x then [] else through_first test
 abbrev pub last_few : {A : Type 0} → ℕ → List A → List A
 last_few n xs = drop (length xs - n) xs
 
--- the last element
+-- the last element, if there is one
 abbrev pub last_one : {A : Type 0} → List A → Option A
 last_one xs = fold (λ before x. Some x) None xs
 
@@ -33,7 +33,7 @@ abbrev pub numbers : ℕ → ℕ → List ℕ
 numbers from zero = []
 numbers from (suc n) = from ∷ numbers (from + 1) n
 
--- the element passes, where there is one
+-- there is an element, and it passes
 abbrev pub passes : {A : Type 0} → (A → Bool) → Option A → Bool
 passes test None = false
 passes test (Some x) = test x

@@ -14,7 +14,7 @@ use Rattle.corr_model.specs.Descriptors.{DescribedItem, immediate, addressed, pa
 use Rattle.corr_model.specs.Tables.{item_type_of}
 use Rattle.corr_model.specs.Visibilities.{Complex, Lists, vis, missing}
 
--- the packets of so many payload bytes into which a heap of n bytes is cut: at least one
+-- the number of packets of so many payload bytes into which a heap of n bytes is cut: at least one
 abbrev pub piece_count : ℕ → ℕ → ℕ
 piece_count width n = max 1 ((n + width - 1) / width)
 
@@ -23,8 +23,8 @@ abbrev pub heap_packet : ℕ → ℕ → List Pointer → ℕ → List ℕ → L
 heap_packet counter size own offset piece =
     packet_bytes (immediate 1 counter ∷ immediate 2 size ∷ immediate 3 offset ∷ immediate 4 (length piece) ∷ own) piece
 
--- a heap as packets: its payload cut into pieces of `packet` bytes, the last one shorter; an empty payload is one empty
--- piece
+-- a heap as packets: its payload cut into pieces of `packet` bytes, the last one may be shorter; an empty payload is
+-- one empty piece
 abbrev pub packets_of : Plan → ℕ → List Pointer → List ℕ → List (List ℕ)
 packets_of plan counter own payload =
     map (λ k. heap_packet counter (length payload) own (k * plan.packet) (take plan.packet (drop (k * plan.packet) payload)))

@@ -1,14 +1,14 @@
 -- Packets: what a byte string spells, and why one spells none.
 -- SPEAD protocol definition, version 4: packet header and item pointers, in flavour SPEAD-64-48. That a repeated
--- special pointer counts where it stands last, and that pointers with ids 0 to 4 are not of the heap, is this
--- project's own.
+-- special pointer counts where it stands last, that pointers with ids 0 to 4 are not of the heap, and the refusals and
+-- their order, are this project's own.
 use Rattle.std.specs.Prelude.{◌≡◌, ℕ, zero, suc, ◌+◌, ◌*◌, ◌%◌, ◌≤◌, Bool, not, ◌&&◌, ◌||◌, ◌==◌, nat_lt, nat_le, if◌then◌else◌, List, [], ◌∷◌, ◌++◌, length, take, drop, slice_index, map, filter, fold, Option, Some, None, IfSome, unwrap_or, is_none}
 use Rattle.std.specs.List.{flat_map, AllByRecursion}
 use Rattle.corr_model.specs.declared.pointer.Pointer.{Pointer}
 use Rattle.corr_model.specs.declared.pointer.Refusal.{Refusal}
 use Rattle.corr_model.specs.declared.pointer.Refusal.TheVariants.{Short, Magic, Version, Flavour, Pointers, NoCounter, NoOffset, NoLength, Length, PastHeap}
 
--- the big-endian number of bytes
+-- bytes read as a big-endian number
 abbrev pub big : List ℕ → ℕ
 big bytes = fold (λ n b. 256 * n + b) 0 bytes
 
@@ -16,6 +16,7 @@ big bytes = fold (λ n b. 256 * n + b) 0 bytes
 abbrev pub pointer_of : List ℕ → Pointer
 pointer_of word = record { immediate = nat_le 32768 (big (take 2 word)); id = big (take 2 word) % 32768; value = big (drop 2 word) }
 
+-- the pointer's value where it is immediate and has this id, else the value found before
 abbrev pub later_value : ℕ → Option ℕ → Pointer → Option ℕ
 later_value id before p = if p.immediate && (p.id == id) then Some p.value else before
 
@@ -69,7 +70,7 @@ pointers_in bytes = map pointer_of (words_in (pointer_count bytes) (drop 8 bytes
 abbrev pub payload_in : List ℕ → List ℕ
 payload_in bytes = drop (8 + 8 * pointer_count bytes) bytes
 
--- the rows on the header: Short, Magic, Version, Flavour, Pointers
+-- the refusals by the header, in their order: Short, Magic, Version, Flavour, Pointers
 abbrev pub front_refusal : List ℕ → Option Refusal
 front_refusal bytes =
     if nat_lt (length bytes) 8 then Some Short
@@ -79,14 +80,15 @@ front_refusal bytes =
     else (if nat_lt (length bytes) (8 + 8 * pointer_count bytes) then Some Pointers
     else None))))
 
--- the offset and the length are there, and then the length is that which is found, and the end is within the size
+-- the refusals by the length: Length where the length that is claimed is not the one found, then PastHeap where the end
+-- is past the size that is said
 abbrev pub length_refusal : Option ℕ → ℕ → ℕ → ℕ → Option Refusal
 length_refusal size offset claimed found =
     if not (claimed == found) then Some (Length claimed found)
     else (if nat_lt (unwrap_or size (offset + claimed)) (offset + claimed) then Some PastHeap
     else None)
 
--- the rows on what the special pointers say: NoCounter, NoOffset, NoLength, Length, PastHeap
+-- the refusals by what the special pointers say, in their order: NoCounter, NoOffset, NoLength, Length, PastHeap
 abbrev pub said_refusal : List Pointer → ℕ → Option Refusal
 said_refusal ps found =
     if is_none (last_value 1 ps) then Some NoCounter
@@ -94,11 +96,12 @@ said_refusal ps found =
     else (if is_none (last_value 4 ps) then Some NoLength
     else length_refusal (last_value 2 ps) (unwrap_or (last_value 3 ps) 0) (unwrap_or (last_value 4 ps) 0) found))
 
+-- the first refusal, or else the later one
 abbrev pub either_row : Option Refusal → Option Refusal → Option Refusal
 either_row (Some e) later = Some e
 either_row None later = later
 
--- why the bytes spell no packet: the first row that applies, or none
+-- why the bytes spell no packet: the first refusal that applies, or none
 abbrev pub refusal_of : List ℕ → Option Refusal
 refusal_of bytes = either_row (front_refusal bytes) (said_refusal (pointers_in bytes) (length (payload_in bytes)))
 

@@ -68,22 +68,22 @@ pub record HasLimitRanges (p : Plan) : Type 0 where
   pub packet_in_eights : p.packet % 8 ≡ 0
   pub heap_limit : IsWithin p.heap_limit 1 2097152
   pub packet_limit : IsWithin p.packet_limit 1 (2 ^ 40)
-  pub beams : p.beams ≤ 64
 
--- every field is in its range
+-- every field that a setting gives is in its range: all but the number of beams
 pub record HasRanges (p : Plan) : Type 0 where
   pub shape : HasShapeRanges p
   pub limit : HasLimitRanges p
 
--- a heap's samples are at most 2^20 bytes and fit the heap limit, and the last timestamp fits 48 bits
+-- a heap's samples are at most 2^20 bytes and fit the heap limit, and the timestamp one step past the last fits 48 bits
 pub record HasJointRules (p : Plan) : Type 0 where
   pub samples : sample_bytes p ≤ 1048576
-  pub last_timestamp : p.start + p.accumulations * p.heaps * p.step ≤ 2 ^ 48 - 1
+  pub end_of_grid : p.start + p.accumulations * p.heaps * p.step ≤ 2 ^ 48 - 1
   pub heap_limit : sample_bytes p ≤ p.heap_limit
 
--- a plan that a run can have
+-- a plan that a run can have: its ranges, its number of beams, its joint rules and at most 2^30 bytes reserved
 pub record Fits (p : Plan) : Type 0 where
   pub ranges : HasRanges p
+  pub beams : p.beams ≤ 64
   pub joint : HasJointRules p
   pub memory : reserved p ≤ 2 ^ 30
 

@@ -1,6 +1,6 @@
 -- The heaps of one stream and their verdicts, its end and its floor; cells and columns.
--- The grid of timestamps, the floor, lag and leap are this project's own. SPEAD protocol definition, version 4: stream
--- control item 6 with 2 is the end of a stream.
+-- SPEAD protocol definition, version 4: stream control item 6 with 2 is the end of a stream. The grid of timestamps,
+-- the verdicts and their order, the floor, lag and leap, the packet limit, cells and columns are this project's own.
 use Rattle.std.specs.Prelude.{ℕ, ◌+◌, ◌-◌, ◌/◌, ◌%◌, min, max, Bool, true, false, not, ◌&&◌, ◌||◌, ◌==◌, nat_lt, nat_le, if◌then◌else◌, List, [], ◌++◌, length, take, map, filter, find, fold, Option, Some, None, is_some, option_map, unwrap_or}
 use Rattle.std.specs.List.{flat_map, list_any}
 use Rattle.corr_model.specs.declared.plan.Plan.{Plan}
@@ -44,7 +44,7 @@ grid plan timestamp = (timestamp - plan.start) / plan.step
 abbrev pub reach : Plan → Judged → ℕ
 reach plan j = unwrap_or (option_map (λ s. grid plan s.timestamp / plan.heaps + 1) j.seen) 0
 
--- a heap on the grid, and not past the guard
+-- the verdict is Beyond, Late, Twice or Used: the heap counts for the greatest accumulation
 abbrev pub raises : Verdict → Bool
 raises Beyond = true
 raises Late = true
@@ -56,15 +56,17 @@ raises other = false
 abbrev pub above_top : Plan → List Judged → ℕ
 above_top plan js = fold max 0 (map (reach plan) (filter (λ j. raises j.verdict) js))
 
--- the floor by these heaps: the accumulations below it are closed
+-- the floor by these heaps: one more than the greatest accumulation, less the lag, and at most all accumulations
 abbrev pub floor_of : Plan → List Judged → ℕ
 floor_of plan js = min plan.accumulations (above_top plan js - plan.lag)
 
+-- used at accumulation n and place t
 abbrev pub is_used_at : ℕ → ℕ → Verdict → Bool
 is_used_at n t (Used m u) = (m == n) && (u == t)
 is_used_at n t other = false
 
--- the verdict of a heap at accumulation n and place t, by the earlier heaps
+-- the verdict at accumulation n and place t by the earlier heaps, the first that applies: Wild past the guard, Beyond
+-- the last, Late below the floor, Twice where one was used there, else Used
 abbrev pub verdict_at : Plan → List Judged → ℕ → ℕ → Verdict
 verdict_at plan js n t =
     if nat_lt 0 plan.leap && nat_le (above_top plan js + plan.leap) n then Wild
@@ -73,7 +75,8 @@ verdict_at plan js n t =
     else (if list_any (λ j. is_used_at n t j.verdict) js then Twice
     else Used n t)))
 
--- the verdict of a heap that says this, by the earlier heaps
+-- the verdict of a heap that says this, the first that applies: Undescribed, Foreign, BeforeStart, OffGrid, else that
+-- of its accumulation and place
 abbrev pub heap_verdict : Plan → ℕ → List Judged → Option Sight → Verdict
 heap_verdict plan antenna js None = Undescribed
 heap_verdict plan antenna js (Some s) =
@@ -82,6 +85,7 @@ heap_verdict plan antenna js (Some s) =
     else (if not ((s.timestamp - plan.start) % plan.step == 0) then OffGrid
     else verdict_at plan js (grid plan s.timestamp / plan.heaps) (grid plan s.timestamp % plan.heaps)))
 
+-- a heap that says this: Stop for a stop heap, else its verdict by the earlier ones
 abbrev pub judged_as : Plan → ℕ → List Judged → WholeHeap → Option Sight → Judged
 judged_as plan antenna js heap seen = record {
   heap = heap;
@@ -93,7 +97,7 @@ judged_as plan antenna js heap seen = record {
 abbrev pub contents_so_far : List Judged → WholeHeap → List (List ℕ)
 contents_so_far js heap = flat_map (λ j. contents_of j.heap) js ++ contents_of heap
 
--- a heap by the earlier ones
+-- a whole heap with what it says by the descriptors so far, its own included, and its verdict by the earlier heaps
 abbrev pub judge_next : Plan → ℕ → List Judged → WholeHeap → Judged
 judge_next plan antenna js heap = judged_as plan antenna js heap (sight plan (readable_descriptors plan (contents_so_far js heap)) (group_of heap))
 
@@ -105,6 +109,7 @@ heaps plan antenna l = in_turn (judge_next plan antenna) (through_first stops (w
 abbrev pub has_stopped : Plan → List (List ℕ) → Bool
 has_stopped plan l = list_any stops (whole_in plan l)
 
+-- ended by a stop heap, else by the limit, else open
 abbrev pub ended_by : Bool → Bool → Option Ending
 ended_by stopped full = if stopped then Some endings.Stop else (if full then Some endings.Limit else None)
 
@@ -112,11 +117,13 @@ ended_by stopped full = if stopped then Some endings.Stop else (if full then Som
 abbrev pub ending : Plan → List (List ℕ) → Option Ending
 ending plan l = ended_by (has_stopped plan l) (nat_le plan.packet_limit (length l))
 
--- the strings that count: up to and including the one at which a stop heap is whole, or the first `packet_limit`
+-- the strings that count: up to and including the one at which a stop heap is whole, or, where there is none, the first
+-- `packet_limit`
 abbrev pub taken : Plan → List (List ℕ) → List (List ℕ)
 taken plan l = unwrap_or (find (has_stopped plan) (fronts l)) (take plan.packet_limit l)
 
--- the floor of a stream that has ended or not: the accumulations below it are closed
+-- all accumulations where the stream has ended or is said to have, else the floor by its heaps; what is below it is
+-- closed
 abbrev pub floor : Plan → ℕ → List (List ℕ) → Bool → ℕ
 floor plan antenna l ended = if ended || is_some (ending plan l) then plan.accumulations else floor_of plan (heaps plan antenna l)
 

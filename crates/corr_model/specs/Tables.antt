@@ -1,6 +1,7 @@
 -- The descriptor table of a stream, and what a readable heap says.
 -- SPEAD protocol definition, version 4: items are described in the stream itself, and a later descriptor counts from
--- then on. The item ids of voltages, their shape and the limit of 64 ids are this project's own.
+-- then on. The item ids of voltages, their shape, the preset, the limit of 64 ids, and that a heap's own descriptors
+-- count for it, are this project's own.
 use Rattle.std.specs.Prelude.{ℕ, Bool, true, false, ◌&&◌, ◌==◌, nat_le, if◌then◌else◌, List, [], ◌∷◌, ◌++◌, length, take, map, filter, Option, Some, None, option_and_then, IsSome}
 use Rattle.std.specs.Result.{result_ok}
 use Rattle.std.specs.List.{filter_map, list_any, list_all}
@@ -42,7 +43,7 @@ readable_descriptors plan contents = preset plan ++ filter_map (λ c. result_ok 
 abbrev pub table_ids : List DescribedItem → List ℕ
 table_ids ds = take 64 (distinct (λ x y. x == y) (map (λ d. d.id) ds))
 
--- the entry of an id in the table: the last descriptor of it
+-- the entry of an id in the table, if it has one: the last descriptor of it
 abbrev pub table_entry : List DescribedItem → ℕ → Option DescribedItem
 table_entry ds id = if list_any (λ x. x == id) (table_ids ds) then last_one (filter (λ d. d.id == id) ds) else None
 
@@ -50,6 +51,7 @@ table_entry ds id = if list_any (λ x. x == id) (table_ids ds) then last_one (fi
 abbrev pub is_unsigned_scalar : DescribedItem → Bool
 is_unsigned_scalar d = (length d.shape == 0) && (length d.types == 1) && list_all (λ t. t.letter == 117) d.types
 
+-- a fixed dimension of this length
 abbrev pub is_fixed : ℕ → Dim → Bool
 is_fixed n Variable = false
 is_fixed n (Fixed m) = n == m
@@ -85,6 +87,7 @@ abbrev pub samples : Plan → List DescribedItem → Group → Option (List ℕ)
 samples plan ds g =
     if passes (is_voltages plan) (table_entry ds 0x4300) then option_and_then (long_enough (sample_bytes plan)) (addressed_content g 0x4300) else None
 
+-- all three, or none where one is none
 abbrev pub sight_of : Option ℕ → Option ℕ → Option (List ℕ) → Option Sight
 sight_of (Some timestamp) (Some antenna) (Some samples) = Some (record { timestamp = timestamp; antenna = antenna; samples = samples })
 sight_of (Some timestamp) (Some antenna) None = None

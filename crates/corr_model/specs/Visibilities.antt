@@ -1,7 +1,8 @@
 -- Visibilities and missing counts.
 -- FX correlation (Thompson, Moran and Swenson, Interferometry and Synthesis in Radio Astronomy, FX correlators): a
 -- sample of one input times the complex conjugate of the other's, per channel, summed over time. In whole numbers, so
--- that nothing is rounded. The order of baselines and products is this project's own.
+-- that nothing is rounded. The order of the samples in a heap, and the count of missing timestamps, are this project's
+-- own.
 use Rattle.std.specs.Prelude.{ℕ, ◌+◌, ◌*◌, ℤ, pos, ◌+ℤ◌, ◌-ℤ◌, ◌*ℤ◌, ◌||◌, nat_lt, if◌then◌else◌, List, map, fold, count_by, slice_index, slice_range, Option, Some, None, is_none}
 use Rattle.std.specs.List.{zip}
 use Rattle.corr_model.specs.declared.plan.Plan.{Plan}
@@ -43,17 +44,19 @@ sample plan cell c s p = record {
 abbrev pub total : List Complex → Complex
 total xs = fold plus none_yet xs
 
--- the products of two cells, summed over the spectra; zero where one of the cells is none
+-- at channel c, the products of polarisation p of the first cell and q of the second, summed over the spectra; zero
+-- where a cell is none
 abbrev pub of_cells : Plan → ℕ → ℕ → ℕ → Option (List ℕ) → Option (List ℕ) → Complex
 of_cells plan c p q None y = none_yet
 of_cells plan c p q (Some x) None = none_yet
 of_cells plan c p q (Some x) (Some y) = total (map (λ s. times_conjugate (sample plan x c s p) (sample plan y c s q)) (numbers 0 plan.spectra))
 
--- the sum of two columns' products over the timestamps from `from` up to `to`
+-- at channel c, the sum of the products of polarisation p of the first column and q of the second, over the timestamps
+-- from `from` up to, and not including, `to`
 abbrev pub part_of : Plan → List (Option (List ℕ)) → List (Option (List ℕ)) → ℕ → ℕ → ℕ → ℕ → ℕ → Complex
 part_of plan x y c p q from to = total (map (λ cells. of_cells plan c p q cells.0 cells.1) (slice_range (zip x y) from to))
 
--- the number of timestamps at which one of the two cells is none
+-- the number of timestamps at which at least one of the two cells is none
 abbrev pub missing_of : List (Option (List ℕ)) → List (Option (List ℕ)) → ℕ
 missing_of x y = count_by (λ cells. is_none cells.0 || is_none cells.1) (zip x y)
 
@@ -61,8 +64,9 @@ missing_of x y = count_by (λ cells. is_none cells.0 || is_none cells.1) (zip x 
 abbrev pub Lists : Type 0
 Lists = ℕ → List (List ℕ)
 
--- the sum, over the timestamps from `from` up to `to` of accumulation n at which both cells are there and over all
--- spectra, of antenna i's sample times the conjugate of antenna j's
+-- at channel c, the sum, over the timestamps of accumulation n from `from` up to, and not including, `to` at which both
+-- cells are there and over all spectra, of antenna i's sample of polarisation p times the conjugate of antenna j's of
+-- polarisation q
 abbrev pub part : Plan → Lists → ℕ → ℕ → ℕ → ℕ → ℕ → ℕ → ℕ → ℕ → Complex
 part plan lists n i j c p q from to = part_of plan (column plan i (lists i) n) (column plan j (lists j) n) c p q from to
 
@@ -70,6 +74,6 @@ part plan lists n i j c p q from to = part_of plan (column plan i (lists i) n) (
 abbrev pub vis : Plan → Lists → ℕ → ℕ → ℕ → ℕ → ℕ → ℕ → Complex
 vis plan lists n i j c p q = part plan lists n i j c p q 0 plan.heaps
 
--- the number of timestamps of accumulation n at which one of the two cells is none
+-- the number of timestamps of accumulation n at which at least one of the two cells is none
 abbrev pub missing : Plan → Lists → ℕ → ℕ → ℕ → ℕ
 missing plan lists n i j = missing_of (column plan i (lists i) n) (column plan j (lists j) n)

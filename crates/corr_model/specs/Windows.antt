@@ -7,11 +7,11 @@ use Rattle.corr_model.specs.declared.plan.Plan.{Plan}
 use Rattle.corr_model.specs.Lists.{in_turn, last_few}
 use Rattle.corr_model.specs.Packets.{Parts, packet_in}
 
--- one past the last byte of the heap that the packet brings
+-- where the packet ends in its heap: offset and payload length together
 abbrev pub end_of : Parts → ℕ
 end_of p = p.offset + length p.payload
 
--- the size is at most the limit, where one is said
+-- no size is said, or it is at most the limit
 abbrev pub is_size_within : ℕ → Option ℕ → Bool
 is_size_within limit None = true
 is_size_within limit (Some size) = nat_le size limit
@@ -47,6 +47,7 @@ has_counter counter o = o.packet.counter == counter
 abbrev pub is_opening : ℕ → List Placed → Parts → Bool
 is_opening window before p = not (list_any (has_counter p.counter) (last_few window (openings before)))
 
+-- a packet after these, which opens a heap or does not
 abbrev pub placed_as : List Placed → Parts → Bool → Placed
 placed_as before p opens = record {
   place = length before;
@@ -55,7 +56,7 @@ placed_as before p opens = record {
   openings = length (openings before) + (if opens then 1 else 0);
 }
 
--- a heard packet by those before it
+-- a heard packet with its place, whether it opens a heap, and the openings so far, by those before it
 abbrev pub place_next : ℕ → List Placed → Parts → Placed
 place_next window before p = placed_as before p (is_opening window before p)
 

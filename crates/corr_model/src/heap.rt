@@ -7,7 +7,8 @@ pub enum DropCause {
     PastLimit,
     /// It and a kept packet of its heap say different sizes.
     SizeDiffers,
-    /// Its end is past the size that a kept packet says, or a kept packet's end is past its size.
+    /// Its end is past the size that a kept packet says, or a kept packet's end is past the size
+    /// that it says itself.
     PastSize,
     /// It shares a byte of the heap with a kept packet.
     Overlap,

@@ -1,18 +1,45 @@
 //! The plan of a run, and the definitions that every other crate's contracts cite.
 #![tactic(auto)]
 
+mod assembly_laws;
+mod built_laws;
+pub mod examples;
 mod heap;
 mod item;
 mod numbering;
 mod observation;
+mod output_laws;
+mod packet_laws;
 mod plan;
 mod pointer;
+mod stream_laws;
+mod sum_laws;
+#[cfg(test)]
+mod tests;
 mod verdict;
 
+pub use assembly_laws::{
+    each_byte_once, no_made_up_byte, packets_end_within_their_sizes, whole_payload_has_its_size,
+};
+pub use built_laws::{
+    built_and_unbuilt_lists, each_string_is_a_heap, next_string_is_a_heap,
+    unbuilt_strings_by_the_last,
+};
 pub use heap::DropCause;
 pub use item::{DescRefusal, Dim, ItemType};
 pub use numbering::{baseline, pair};
 pub use observation::{Observation, Unheard};
+pub use output_laws::{
+    a_heap_for_each_accumulation, counters_in_order, lengths_of_payloads, lengths_of_values,
+    pairs_in_baseline_order, slots_and_workers_change_nothing, written_packet_is_read_back,
+};
+pub use packet_laws::{read_as_spelled, refused_or_spelled, spelled_at_most_once};
 pub use plan::Plan;
 pub use pointer::{Pointer, Refusal};
+pub use stream_laws::{
+    closed_columns_are_final, later_heaps_are_above_the_floor, next_fate, next_heard, next_judged,
+    next_member, next_placed, next_whole_heap, next_whole_in, one_heap_at_a_place,
+    rest_says_nothing, strings_that_count,
+};
+pub use sum_laws::{parts_add, parts_are_small, turned_round_is_conjugate, two_lists_alone};
 pub use verdict::{Ending, Verdict};

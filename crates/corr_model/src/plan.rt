@@ -16,7 +16,7 @@ pub struct Plan {
     pub heaps: u32,
     /// Accumulations, 1 to 1,048,576.
     pub accumulations: u32,
-    /// How many accumulations stay open beside the newest, 1 to 16.
+    /// How many accumulations stay open, the newest included, 1 to 16.
     pub lag: u32,
     /// Openings for which a heap waits for its packets, 1 to 64.
     pub window: u32,
@@ -63,17 +63,17 @@ impl Plan {
     ghost use Rattle.corr_model.specs.Plans.{Fits, HasRanges, HasShapeRanges, HasLimitRanges, HasJointRules};
     ghost use Rattle.corr_model.specs.Plans.{baselines, sample_bytes, column_bytes, visibility_bytes, map_bytes, stream_bytes, result_bytes, reserved};
 
-    /// Whether every field is in its range, the joint rules hold and the memory limit is kept.
+    /// Whether every field is in its range, beams included, the joint rules hold and the memory limit is kept.
     pub fn fits(&self) -> bool
         ensures { IsTrue result ↔ Fits self.now }
     {
-        if !self.has_ranges() {
+        if !self.has_ranges() || self.beams > 64 {
             return false;
         }
         self.has_joint_rules() && self.reserved() <= 1 << 30
     }
 
-    /// Whether every field is in its range.
+    /// Whether every field that a setting gives is in its range: all but the number of beams.
     pub fn has_ranges(&self) -> bool
         ensures { IsTrue result ↔ HasRanges self.now }
     {
@@ -151,10 +151,7 @@ impl Plan {
         if !is_within(self.heap_limit.into(), 1, 2_097_152) {
             return false;
         }
-        if !is_within(self.packet_limit, 1, 1 << 40) {
-            return false;
-        }
-        is_within(self.beams.into(), 0, 64)
+        is_within(self.packet_limit, 1, 1 << 40)
     }
 
     fn has_joint_rules(&self) -> bool
@@ -165,13 +162,13 @@ impl Plan {
         if samples > 1_048_576 {
             return false;
         }
-        if !self.has_last_timestamp() {
+        if !self.ends_in_time() {
             return false;
         }
         samples <= u128::from(self.heap_limit)
     }
 
-    fn has_last_timestamp(&self) -> bool
+    fn ends_in_time(&self) -> bool
         requires { HasShapeRanges self.now }
         ensures { IsTrue result ↔ (self.now.start + self.now.accumulations * self.now.heaps * self.now.step ≤ 2 ^ 48 - 1) }
     {

@@ -8,7 +8,7 @@ use crate::pointer::Refusal;
 pub enum Verdict {
     /// It is no packet.
     Refused(Refusal),
-    /// It is a packet that its heap does not keep.
+    /// It is a packet past the heap limit, or one that its heap does not keep.
     Dropped(DropCause),
     /// Its heap was whole before.
     Stale,
@@ -16,7 +16,8 @@ pub enum Verdict {
     Part,
     /// It makes a stop heap whole: the stream ends.
     Stop,
-    /// It makes a heap whole that is not described so that its samples can be read.
+    /// It makes a heap whole that is not readable: an item that is needed is not described as it
+    /// must be, is absent, or is too short.
     Undescribed,
     /// It makes a heap of another antenna whole: the antenna's number.
     Foreign(u64),

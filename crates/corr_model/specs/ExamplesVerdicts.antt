@@ -1,0 +1,97 @@
+-- Streams of the worked examples of verdicts, endings and floors. This project's own.
+use Rattle.std.specs.Prelude.{ℕ, false, List, [], ◌∷◌, ◌++◌, length, map, replicate, Some, None}
+use Rattle.std.specs.List.{flat_map, zip}
+use Rattle.corr_model.specs.declared.plan.Plan.{Plan}
+use Rattle.corr_model.specs.declared.pointer.Pointer.{Pointer}
+use Rattle.corr_model.specs.Lists.{numbers}
+use Rattle.corr_model.specs.Descriptors.{DescribedItem, immediate, addressed, descriptor_bytes}
+use Rattle.corr_model.specs.Tables.{scalar, voltages}
+use Rattle.corr_model.specs.Examples.{small_plan, example_packet, voltage_heap, voltage_pointers, descriptor_pointers, stop_heap, first_packet, first_samples, second_samples}
+
+-- `timestamp`, `antenna` and `voltages` as a sender describes them
+abbrev pub voltage_items : Plan → List DescribedItem
+voltage_items plan =
+    record (scalar 0x1600) { name = 116 ∷ 105 ∷ 109 ∷ 101 ∷ 115 ∷ 116 ∷ 97 ∷ 109 ∷ 112 ∷ [] }
+    ∷ record (scalar 0x4101) { name = 97 ∷ 110 ∷ 116 ∷ 101 ∷ 110 ∷ 110 ∷ 97 ∷ [] }
+    ∷ record (voltages plan) { name = 118 ∷ 111 ∷ 108 ∷ 116 ∷ 97 ∷ 103 ∷ 101 ∷ 115 ∷ [] }
+    ∷ []
+
+-- the heap of these descriptor contents in one packet
+abbrev pub descriptor_heap : ℕ → List (List ℕ) → List ℕ
+descriptor_heap counter contents =
+    example_packet counter (Some (length (flat_map (λ c. c) contents))) 0 (descriptor_pointers 0 contents) (flat_map (λ c. c) contents)
+
+-- heaps of antenna 0 at these timestamps, with counters from 1
+abbrev pub heaps_at : List ℕ → List (List ℕ)
+heaps_at timestamps = map (λ ct. voltage_heap ct.0 0 ct.1 first_samples) (zip (numbers 1 (length timestamps)) timestamps)
+
+-- a plan that describes nothing beforehand
+abbrev pub undescribed_plan : Plan
+undescribed_plan = record small_plan { preset = false }
+
+-- 'undescribed until described': a heap at 0, a heap with the three descriptors, a heap at 1
+abbrev pub described_late : List (List ℕ)
+described_late =
+    first_packet ∷ descriptor_heap 2 (map descriptor_bytes (voltage_items undescribed_plan)) ∷ voltage_heap 3 0 1 second_samples ∷ []
+
+-- a voltage heap that brings the three descriptors, and its samples in front of them
+abbrev pub self_described : List ℕ
+self_described =
+    let contents = map descriptor_bytes (voltage_items undescribed_plan) in
+    let payload = first_samples ++ flat_map (λ c. c) contents in
+    example_packet 1 (Some (length payload)) 0 (voltage_pointers 0 0 ++ descriptor_pointers 4 contents) payload
+
+-- a plan with two accumulations and this lag
+abbrev pub with_lag : ℕ → Plan
+with_lag lag = record small_plan { accumulations = 2; lag = lag }
+
+-- two heaps at timestamp 0, with other bytes
+abbrev pub two_at_one_place : List (List ℕ)
+two_at_one_place = first_packet ∷ voltage_heap 2 0 0 second_samples ∷ []
+
+-- the plan of 'every verdict of time'
+abbrev pub timed_plan : Plan
+timed_plan = record small_plan { start = 100; step = 4; accumulations = 2; leap = 2 }
+
+-- the timestamps of 'every verdict of time'
+abbrev pub timed : List ℕ
+timed = 96 ∷ 102 ∷ 116 ∷ 108 ∷ 100 ∷ 116 ∷ 112 ∷ 124 ∷ 148 ∷ []
+
+-- 'stop in the middle': a heap at 0, a stop heap, a heap at 1
+abbrev pub stopped : List (List ℕ)
+stopped = first_packet ∷ stop_heap 2 ∷ voltage_heap 3 0 1 second_samples ∷ []
+
+-- one timestamp an accumulation, this guard, and a million accumulations
+abbrev pub guarded_plan : ℕ → Plan
+guarded_plan leap = record small_plan { heaps = 1; accumulations = 1048576; leap = leap }
+
+-- a plan with this packet limit
+abbrev pub with_limit : ℕ → Plan
+with_limit packet_limit = record small_plan { packet_limit = packet_limit }
+
+-- a heap of antenna 0 whose timestamp is addressed: so many bytes of 255
+abbrev pub late_in_time : ℕ → List ℕ
+late_in_time count =
+    example_packet 1 (Some (length (replicate count 255 ++ first_samples))) 0
+    (addressed 0x1600 0 ∷ immediate 0x4101 0 ∷ addressed 0x4300 count ∷ [])
+    (replicate count 255 ++ first_samples)
+
+-- a heap of one packet with these pointers and the first samples
+abbrev pub with_pointers : List Pointer → List ℕ
+with_pointers pointers = example_packet 1 (Some 4) 0 pointers first_samples
+
+-- a heap at 0 of antenna 0 that goes on to say antenna 1 and timestamp 1
+abbrev pub own_first : List ℕ
+own_first = with_pointers (voltage_pointers 0 0 ++ immediate 0x4101 1 ∷ immediate 0x1600 1 ∷ [])
+
+-- a heap that says antenna 1, and then timestamp 0 and antenna 0
+abbrev pub other_first : List ℕ
+other_first = with_pointers (immediate 0x4101 1 ∷ voltage_pointers 0 0)
+
+-- a heap at 0 of antenna 0 whose voltages are immediate
+abbrev pub immediate_voltages : List ℕ
+immediate_voltages = with_pointers (immediate 0x1600 0 ∷ immediate 0x4101 0 ∷ immediate 0x4300 0 ∷ [])
+
+-- a stop heap in two packets of one byte
+abbrev pub stop_in_halves : List (List ℕ)
+stop_in_halves = example_packet 1 None 0 (immediate 6 2 ∷ []) (7 ∷ []) ∷ example_packet 1 (Some 2) 1 [] (8 ∷ []) ∷ []

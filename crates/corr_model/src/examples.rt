@@ -1,0 +1,11 @@
+//! Worked examples: the `ensures` of each function is a fact that the definitions compute to.
+
+pub mod assembly;
+pub mod correlation;
+pub mod descriptors;
+pub mod endings;
+pub mod items;
+pub mod output;
+pub mod packets;
+pub mod verdicts;
+pub mod windows;
