@@ -1,0 +1,15 @@
+pub mod Cells
+pub mod Grid
+pub mod Keeping
+pub mod OwnItems
+pub mod OwnSights
+pub mod Records
+pub mod Sending
+pub mod Settings
+pub mod Sourcing
+pub mod Streaming
+pub mod Sums
+pub mod Texts
+pub mod Words
+pub mod Runs
+pub mod Placing
