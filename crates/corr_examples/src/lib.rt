@@ -1,0 +1,17 @@
+//! Worked examples: runs of the program's one call over objects in memory, with values by hand.
+#![tactic(auto)]
+
+#[cfg(test)]
+mod built_tests;
+#[cfg(test)]
+mod fault_tests;
+#[cfg(test)]
+mod output;
+#[cfg(test)]
+mod outside;
+#[cfg(test)]
+mod packets;
+#[cfg(test)]
+mod plain_tests;
+#[cfg(test)]
+mod words_tests;
