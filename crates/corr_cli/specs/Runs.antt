@@ -138,10 +138,11 @@ pub record FoundUnbuilt {S : Type 0} (plan : Plan) (seen : Seen S) : Type 0 wher
   pub found : GivesUnbuilt plan seen.gives seen.given seen.old
   pub quiet : SentNothing seen
 
--- a source could not be begun: its count of faults alone rose, those before it are begun, and nothing was sent
+-- a source could not be begun: its count of faults alone rose, those before it are begun, the sink is not, and nothing was sent
 pub record FailedToBegin {S : Type 0} (plan : Plan) (seen : Seen S) (antenna : ℕ) : Type 0 where
   pub rose : AloneRose seen.faults plan.antennas antenna seen.old seen.now
   pub begun : AreBegunBefore seen.begun antenna seen.now
+  pub sink_unbegun : seen.sink_begun ≡ false
   pub quiet : SentNothing seen
 
 -- what a run over begun sources and a begun sink comes to
@@ -161,7 +162,7 @@ RunsPlan plan seen (Ok (NotBegun antenna)) = FailedToBegin plan seen antenna
 RunsPlan plan seen (Ok other) = ⊥
 RunsPlan plan seen (Err e) = SentNothing seen
 
--- nothing was begun and nothing was sent, and no count of faults changed
+-- nothing was begun and nothing was sent, and no count of faults of the sources and of the sink changed
 pub record Untouched {S : Type 0} (seen : Seen S) : Type 0 where
   pub same : seen.now ≡ seen.old
   pub quiet : SentNothing seen

@@ -11,8 +11,8 @@ ghost use Rattle.corr_cli.specs.Settings.{plan_of};
 ghost use Rattle.corr_cli.specs.Placing.{IsAtOwn, AreAtOwn};
 ghost use Rattle.corr_cli.specs.Texts.{Tells};
 ghost use Rattle.corr_cli.specs.Sending.{AppendsPackets};
-ghost use Rattle.corr_cli.specs.Sourcing.{AreBegun, AreSameFrom, KeepsEach, NoneFell};
-ghost use Rattle.corr_cli.specs.Runs.{AreRefused, HasPlan, Goes, WordsSay, Correlates, RunsPlan, Comes, RanAs, AreGiven, GaveTaken, NoneUnbuilt, IsWhole, AllBegun, FaultOfSource, NoneRose, list_of};
+ghost use Rattle.corr_cli.specs.Sourcing.{AreBegun, AreSameFrom, KeepsEach};
+ghost use Rattle.corr_cli.specs.Runs.{AreRefused, HasPlan, Goes, WordsSay, Correlates, RunsPlan, Comes, RanAs, AreGiven, GaveTaken, NoneUnbuilt, IsWhole, FaultOfSource, NoneRose, list_of};
 
 use crate::answer::{Answer, Status};
 use crate::begin::begin_all;
@@ -42,6 +42,10 @@ pub fn run_returning<O: Observation, S: PacketSource<O>, K: PacketSink, P: TextS
     requires none_begun { All (λ s. S.begun s ≡ false) sources.old }
     requires sink { K.begun sink.old ≡ false }
     requires settings { D.begun settings.old ≡ false }
+
+    // What stays.
+    ensures length { length sources.new ≡ length sources.old }
+    ensures settings_source { settings.new ≡ settings.old }
 
     // The correlation theorem: what is sent, what is taken, and what is begun.
     ensures output { (plan : Plan) (lists : List (List (List ℕ))) → HasPlan (map string_bytes words.now) plan
@@ -115,6 +119,7 @@ fn answer<O: Observation, S: PacketSource<O>, K: PacketSink>(
     requires sources { length sources.old ≡ 64 }
     requires none_begun { All (λ s. S.begun s ≡ false) sources.old }
     requires sink { K.begun sink.old ≡ false }
+    ensures length { length sources.new ≡ length sources.old }
     ensures at_sources { (said : PlainWords) → form (map string_bytes words.now) ≡ Some said
         → AreAtOwn S.begun S.at (map place_of said.inputs) sources.new }
     ensures at_sink { (said : PlainWords) → form (map string_bytes words.now) ≡ Some said
@@ -179,6 +184,7 @@ fn run_plan<O: Observation, S: PacketSource<O>, K: PacketSink>(
     requires sources { length sources.old ≡ 64 }
     requires none_begun { All (λ s. S.begun s ≡ false) sources.old }
     requires sink { K.begun sink.old ≡ false }
+    ensures length { length sources.new ≡ length sources.old }
     ensures at_sources { (said : PlainWords) → form (map string_bytes words.now) ≡ Some said
         → AreAtOwn S.begun S.at (map place_of said.inputs) sources.new }
     ensures at_sink { (said : PlainWords) → form (map string_bytes words.now) ≡ Some said
