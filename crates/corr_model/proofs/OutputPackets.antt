@@ -26,7 +26,7 @@ all_numbers P n each = λ k d h.
     subst P (sym (get_or-numbers 0 n k d within ∙ e)) (each k within)
 
 -- a piece begins within the payload
-piece_begins : (width n k : ℕ) → 1 ≤ width → k < piece_count width n → k * width ≤ n
+pub piece_begins : (width n k : ℕ) → 1 ≤ width → k < piece_count width n → k * width ≤ n
 piece_begins width n k some below =
     let pieces = (n + width - 1) / width in
     elim (cases_lt k pieces) [
@@ -41,7 +41,7 @@ piece_begins width n k some below =
           omega (arith, product)
     ]
 
-piece_ends : (width k : ℕ) (payload : List ℕ) → k * width ≤ length payload → k * width + length (take width (drop (k * width) payload)) ≤ length payload
+pub piece_ends : (width k : ℕ) (payload : List ℕ) → k * width ≤ length payload → k * width + length (take width (drop (k * width) payload)) ≤ length payload
 piece_ends width k payload begins =
     omega (arith, length-take width (drop (k * width) payload), length-drop (k * width) payload)
 
@@ -99,7 +99,7 @@ head_counters plan fits =
     })
 
 -- the timestamps of a plan that fits are below 2^48
-timestamp_fits : (start n heaps step most : ℕ) → n ≤ most → start + most * heaps * step ≤ 2 ^ 48 - 1 → start + n * heaps * step < 2 ^ 48
+pub timestamp_fits : (start n heaps step most : ℕ) → n ≤ most → start + most * heaps * step ≤ 2 ^ 48 - 1 → start + n * heaps * step < 2 ^ 48
 timestamp_fits start n heaps step most below last =
     let inner : n * heaps ≤ most * heaps = mul-le-mul_right heaps below in
     let outer : n * heaps * step ≤ most * heaps * step = mul-le-mul_right step inner in

@@ -287,7 +287,8 @@ again bytes p s =
 pub spelled_once : (bytes : List ℕ) (p q : Parts) → Spells bytes p → Spells bytes q → p ≡ q
 spelled_once bytes p q s t = sym (again bytes p s) ∙ again bytes q t
 
-chosen : (why : Option Refusal) (q p : Parts) → cond (is_none why) (Some q) None ≡ Some p → (why ≡ None) × (q ≡ p)
+-- a packet that is read is not refused, and is what stands at the places
+pub chosen : (why : Option Refusal) (q p : Parts) → cond (is_none why) (Some q) None ≡ Some p → (why ≡ None) × (q ≡ p)
 chosen None q p h = (refl, cc)
 chosen (Some e) q p h = absurd cc
 

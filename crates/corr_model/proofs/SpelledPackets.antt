@@ -1,5 +1,5 @@
 -- What was written as a packet is read back as it.
-use Rattle.std.proofs.Common.{◌≡◌, ℕ, zero, suc, ◌+◌, ◌*◌, ◌/◌, ◌%◌, ◌^◌, ◌<◌, ◌≤◌, Bool, true, false, cond, not, ◌&&◌, ◌==◌, nat_lt, nat_le, if◌then◌else◌, List, [], ◌∷◌, ◌++◌, Option, Some, None, is_none, unwrap_or, All, length, map, drop, filter, fold, flat_map, refl, sym, ap, ap₂, ◌∙◌, arith, add_assoc, add-mul, div-add-mod', div-one, mod-eq_of_lt, mod-lt, mul_assoc, mul-le-mul_right, length-append}
+use Rattle.std.proofs.Common.{◌≡◌, ℕ, zero, suc, ◌+◌, ◌*◌, ◌/◌, ◌%◌, ◌^◌, ◌<◌, ◌≤◌, Bool, true, false, cond, not, ◌&&◌, ◌==◌, nat_lt, nat_le, if◌then◌else◌, List, [], ◌∷◌, ◌++◌, Option, Some, None, IfSome, is_none, unwrap_or, All, length, map, drop, filter, fold, flat_map, refl, sym, ap, ap₂, ◌∙◌, arith, add_assoc, add-mul, div-add-mod', div-one, mod-eq_of_lt, mod-lt, mul_assoc, mul-le-mul_right, length-append}
 use Rattle.std.proofs.Math.Nat.{mul-add-mod_self_right, one-le-pow, pow-succ'}
 use Rattle.std.proofs.lemmas.Bool.{and_right, eq-eqb, ne_eqb, le-ltb, le-leb, lt-ltb, lt-leb}
 use Rattle.std.proofs.lemmas.List.{drop_at}
@@ -9,7 +9,7 @@ use Rattle.corr_model.specs.declared.pointer.Pointer.{Pointer}
 use Rattle.corr_model.specs.declared.pointer.Refusal.{Refusal}
 use Rattle.corr_model.specs.declared.pointer.Refusal.TheVariants.{Short, Pointers, NoCounter, NoOffset, NoLength, Length, PastHeap}
 use Rattle.corr_model.specs.Packets.{big, pointer_of, later_value, last_value, is_own, Parts, words_in, pointer_count, pointers_in, payload_in, front_refusal, length_refusal, said_refusal, either_row, packet_in}
-use Rattle.corr_model.specs.Descriptors.{word_of, immediate, packet_bytes}
+use Rattle.corr_model.specs.Descriptors.{word_of, immediate, special_pointers, packet_bytes}
 use Rattle.corr_model.specs.Outputs.{heap_packet}
 
 -- ---- numbers
@@ -92,7 +92,7 @@ pointers_back [] fit = refl
 pointers_back (p ∷ ps) fit = ap₂ (λ q qs. q ∷ qs) (pointer_of_word p (All-head IsWritable p ps fit)) (pointers_back ps (All-tail IsWritable p ps fit))
 
 -- eight bytes a pointer
-length_words : (ps : List Pointer) → length (flat_map word_of ps) ≡ 8 * length ps
+pub length_words : (ps : List Pointer) → length (flat_map word_of ps) ≡ 8 * length ps
 length_words [] = refl
 length_words (p ∷ ps) = let rest = length_words ps in omega (arith, rest)
 
@@ -119,7 +119,7 @@ payload_back ps payload few =
     ap (λ n. drop (8 + 8 * n) (packet_bytes ps payload)) (count_back ps payload few)
     ∙ drop_at (front_of ps) payload (8 + 8 * length ps) (length_front ps)
 
-whole_length : (ps : List Pointer) (payload : List ℕ) → length (packet_bytes ps payload) ≡ 8 + 8 * length ps + length payload
+pub whole_length : (ps : List Pointer) (payload : List ℕ) → length (packet_bytes ps payload) ≡ 8 + 8 * length ps + length payload
 whole_length ps payload =
     length-append (front_of ps) payload ∙ ap (λ n. n + length payload) (length_front ps)
 
@@ -193,36 +193,57 @@ packet_if counter size offset claimed own payload =
     else length_refusal size (unwrap_or offset 0) (unwrap_or claimed 0) (length payload)))))
     then Some (said counter size offset own payload) else None
 
+-- a payload that ends within the size that is said is not past it
+not_past : (size : Option ℕ) (end : ℕ) → IfSome size (λ s. end ≤ s) → nat_lt (unwrap_or size end) end ≡ false
+not_past None end within = le-ltb end end (omega arith)
+not_past (Some s) end within = le-ltb s end within
+
 -- no row on the lengths applies
-lengths_fit : (size offset n : ℕ) → offset + n ≤ size → length_refusal (Some size) offset n n ≡ None
+lengths_fit : (size : Option ℕ) (offset n : ℕ) → IfSome size (λ s. offset + n ≤ s) → length_refusal size offset n n ≡ None
 lengths_fit size offset n within =
-    ap₂ (λ a b. if not a then Some (Length n n) else (if b then Some PastHeap else None)) (eq-eqb n n refl) (le-ltb size (offset + n) within)
+    ap₂ (λ a b. if not a then Some (Length n n) else (if b then Some PastHeap else None)) (eq-eqb n n refl) (not_past size (offset + n) within)
 
--- the pointers of a heap's packet
-abbrev special_of : ℕ → ℕ → ℕ → ℕ → List Pointer → List Pointer
-special_of c size o n own = immediate 1 c ∷ immediate 2 size ∷ immediate 3 o ∷ immediate 4 n ∷ own
-
-special_writable : (c size o n : ℕ) (own : List Pointer) → c < 2 ^ 48 → size < 2 ^ 48 → o < 2 ^ 48 → n < 2 ^ 48 → All IsWritable own → All IsWritable (special_of c size o n own)
-special_writable c size o n own c_fits size_fits o_fits n_fits own_fits =
+-- the pointers of a packet fit their places
+special_writable : (c : ℕ) (size : Option ℕ) (o n : ℕ) (own : List Pointer) → c < 2 ^ 48 → IfSome size (λ s. s < 2 ^ 48) → o < 2 ^ 48 → n < 2 ^ 48 → All IsWritable own → All IsWritable (special_pointers c size o n ++ own)
+special_writable c None o n own c_fits size_fits o_fits n_fits own_fits =
+    let fourth = All-cons IsWritable (immediate 4 n) own (record { id = omega arith; value = n_fits }) own_fits in
+    let third = All-cons IsWritable (immediate 3 o) (immediate 4 n ∷ own) (record { id = omega arith; value = o_fits }) fourth in
+    All-cons IsWritable (immediate 1 c) (immediate 3 o ∷ immediate 4 n ∷ own) (record { id = omega arith; value = c_fits }) third
+special_writable c (Some size) o n own c_fits size_fits o_fits n_fits own_fits =
     let fourth = All-cons IsWritable (immediate 4 n) own (record { id = omega arith; value = n_fits }) own_fits in
     let third = All-cons IsWritable (immediate 3 o) (immediate 4 n ∷ own) (record { id = omega arith; value = o_fits }) fourth in
     let second = All-cons IsWritable (immediate 2 size) (immediate 3 o ∷ immediate 4 n ∷ own) (record { id = omega arith; value = size_fits }) third in
     All-cons IsWritable (immediate 1 c) (immediate 2 size ∷ immediate 3 o ∷ immediate 4 n ∷ own) (record { id = omega arith; value = c_fits }) second
 
+-- what the special pointers said stays, and the heap's pointers are all that there are
+said_back : (c : ℕ) (size : Option ℕ) (o : ℕ) (own : List Pointer) (payload : List ℕ) → IfSome size (λ s. o + length payload ≤ s) → All IsOwn own
+    → packet_if (fold (later_value 1) (Some c) own) (fold (later_value 2) size own) (fold (later_value 3) (Some o) own) (fold (later_value 4) (Some (length payload)) own) (filter is_own own) payload
+    ≡ Some (said (Some c) size (Some o) own payload)
+said_back c size o own payload within each =
+    let last : (id : ℕ) (before : Option ℕ) → id ≤ 4 → fold (later_value id) before own ≡ before = λ id before least. last_stays id before own least each in
+    ap (λ v. packet_if v (fold (later_value 2) size own) (fold (later_value 3) (Some o) own) (fold (later_value 4) (Some (length payload)) own) (filter is_own own) payload) (last 1 (Some c) (omega arith))
+    ∙ ap (λ v. packet_if (Some c) v (fold (later_value 3) (Some o) own) (fold (later_value 4) (Some (length payload)) own) (filter is_own own) payload) (last 2 size (omega arith))
+    ∙ ap (λ v. packet_if (Some c) size v (fold (later_value 4) (Some (length payload)) own) (filter is_own own) payload) (last 3 (Some o) (omega arith))
+    ∙ ap (λ v. packet_if (Some c) size (Some o) v (filter is_own own) payload) (last 4 (Some (length payload)) (omega arith))
+    ∙ ap (λ qs. packet_if (Some c) size (Some o) (Some (length payload)) qs payload) (own_kept own each)
+    ∙ ap (λ r. if is_none (either_row None r) then Some (said (Some c) size (Some o) own payload) else None) (lengths_fit size o (length payload) within)
+
+-- a packet read back, with or without a size, and with as many pointers as 16 bits count
+pub packet_back : (c : ℕ) (size : Option ℕ) (o : ℕ) (own : List Pointer) (payload : List ℕ) → c < 2 ^ 48 → IfSome size (λ s. s < 2 ^ 48) → o < 2 ^ 48 → length payload < 2 ^ 48
+    → IfSome size (λ s. o + length payload ≤ s) → length (special_pointers c size o (length payload) ++ own) < 2 ^ 16 → All IsOwn own
+    → packet_in (packet_bytes (special_pointers c size o (length payload) ++ own) payload) ≡ Some (record { counter = c; size = size; offset = o; pointers = own; payload = payload })
+packet_back c None o own payload c_fits size_fits o_fits n_fits within few each =
+    packet_of_bytes (special_pointers c None o (length payload) ++ own) payload few (special_writable c None o (length payload) own c_fits size_fits o_fits n_fits (own_writable own each))
+    ∙ said_back c None o own payload within each
+packet_back c (Some size) o own payload c_fits size_fits o_fits n_fits within few each =
+    packet_of_bytes (special_pointers c (Some size) o (length payload) ++ own) payload few (special_writable c (Some size) o (length payload) own c_fits size_fits o_fits n_fits (own_writable own each))
+    ∙ said_back c (Some size) o own payload within each
+
 -- a packet of a heap read back
 pub spelled_packet : (c size o : ℕ) (own : List Pointer) (payload : List ℕ) → c < 2 ^ 48 → size < 2 ^ 48 → o + length payload ≤ size → length own ≤ 60 → All IsOwn own
     → packet_in (heap_packet c size own o payload) ≡ Some (record { counter = c; size = Some size; offset = o; pointers = own; payload = payload })
-spelled_packet c size o own payload counter_fits size_fits within few is_own_each =
-    let ps = special_of c size o (length payload) own in
-    let fit = special_writable c size o (length payload) own counter_fits size_fits (omega arith) (omega arith) (own_writable own is_own_each) in
-    let last : (id : ℕ) (before : Option ℕ) → id ≤ 4 → fold (later_value id) before own ≡ before = λ id before least. last_stays id before own least is_own_each in
-    packet_of_bytes ps payload (omega arith) fit
-    ∙ ap (λ v. packet_if v (fold (later_value 2) (Some size) own) (fold (later_value 3) (Some o) own) (fold (later_value 4) (Some (length payload)) own) (filter is_own own) payload) (last 1 (Some c) (omega arith))
-    ∙ ap (λ v. packet_if (Some c) v (fold (later_value 3) (Some o) own) (fold (later_value 4) (Some (length payload)) own) (filter is_own own) payload) (last 2 (Some size) (omega arith))
-    ∙ ap (λ v. packet_if (Some c) (Some size) v (fold (later_value 4) (Some (length payload)) own) (filter is_own own) payload) (last 3 (Some o) (omega arith))
-    ∙ ap (λ v. packet_if (Some c) (Some size) (Some o) v (filter is_own own) payload) (last 4 (Some (length payload)) (omega arith))
-    ∙ ap (λ qs. packet_if (Some c) (Some size) (Some o) (Some (length payload)) qs payload) (own_kept own is_own_each)
-    ∙ ap (λ r. if is_none (either_row None r) then Some (said (Some c) (Some size) (Some o) own payload) else None) (lengths_fit size o (length payload) within)
+spelled_packet c size o own payload c_fits size_fits within few each =
+    packet_back c (Some size) o own payload c_fits size_fits (omega arith) (omega arith) within (omega arith) each
 
 -- the same, each bound in words of its own
 pub written_packet : (c size o : ℕ) (own : List Pointer) (payload : List ℕ) → c < 2 ^ 48 → size < 2 ^ 48 → o + length payload ≤ size → length own ≤ 60

@@ -20,7 +20,8 @@ use Rattle.corr_model.proofs.Pushes.{above_top_push}
 use Rattle.corr_model.proofs.StreamPushes.{whole_in_push, heaps_push, heaps_stay}
 use Rattle.corr_model.proofs.StreamLawsTaken.{cases_ended, heaps_ended}
 
-used_is : (n t : ℕ) (v : Verdict) → is_used_at n t v ≡ true → v ≡ Used n t
+-- used at a place is used there
+pub used_is : (n t : ℕ) (v : Verdict) → is_used_at n t v ≡ true → v ≡ Used n t
 used_is n t (Used m u) h =
     let parts = and_parts (eqb m n) (eqb u t) h in
     let first = eqb-true m n parts.0 in

@@ -1,17 +1,22 @@
 -- Below the floor nothing changes: no later heap is used there, and the columns stay.
-use Rattle.std.proofs.Common.{◌≡◌, ℕ, ◌<◌, ◌≤◌, true, false, List, [], ◌∷◌, ◌++◌, length, take, drop, map, Option, Some, None, refl, sym, ap, ◌∙◌, subst, arith, inl, inr}
+use Rattle.std.proofs.Common.{◌≡◌, ℕ, ◌<◌, ◌≤◌, Bool, true, false, List, [], ◌∷◌, ◌++◌, length, take, drop, map, Option, Some, None, refl, sym, ap, ◌∙◌, subst, arith, inl, inr}
 use Rattle.std.specs.List.{list_any, find}
 use Rattle.std.specs.Option.{is_some, option_map, option_or}
 use Rattle.std.proofs.lemmas.List.{append-nil}
 use Rattle.std.proofs.Math.Seq.{take-append_seam, drop-append_seam}
 use Rattle.std.proofs.lemmas.List.Folds.{find-append}
-use Rattle.std.proofs.lemmas.Bool.{cases_Bool, cond-true, cond-false, cond_both}
+use Rattle.std.proofs.lemmas.Bool.{cases_Bool, cond-true, cond-false, cond_both, or_parts}
 use Rattle.corr_model.specs.declared.plan.Plan.{Plan}
 use Rattle.corr_model.specs.Lists.{numbers}
 use Rattle.corr_model.specs.Streams.{Judged, floor_of, is_used_at, heaps, ending, floor, samples_of, cell_in, cell, column, taken}
-use Rattle.corr_model.proofs.BuiltHeaps.{none_found}
 use Rattle.corr_model.proofs.StreamLawsTaken.{ending_stays, heaps_ended, same_after_end, heaps_of_taken}
 use Rattle.corr_model.proofs.StreamLawsCells.{heaps_grow}
+
+none_found : {A : Type 0} (test : A → Bool) (xs : List A) → list_any test xs ≡ false → find test xs ≡ None
+none_found test [] none = refl
+none_found test (x ∷ xs) none =
+    let parts = or_parts (test x) (list_any test xs) none in
+    cond-false (test x) (Some x) (find test xs) parts.0 ∙ none_found test xs parts.1
 
 floor_ended : (plan : Plan) (antenna : ℕ) (l : List (List ℕ)) → is_some (ending plan l) ≡ true → floor plan antenna l false ≡ plan.accumulations
 floor_ended plan antenna l h = cond-true (is_some (ending plan l)) plan.accumulations (floor_of plan (heaps plan antenna l)) h

@@ -111,6 +111,16 @@ abbrev pub packet_bytes : List Pointer → List ℕ → List ℕ
 packet_bytes pointers payload =
     (0x53 ∷ 0x04 ∷ 0x02 ∷ 0x06 ∷ 0 ∷ 0 ∷ []) ++ (bytes_high_first 2 (length pointers) ++ (flat_map word_of pointers ++ payload))
 
+-- a heap size as a pointer, where one is said
+abbrev pub size_pointers : Option ℕ → List Pointer
+size_pointers None = []
+size_pointers (Some size) = immediate 2 size ∷ []
+
+-- the pointers that say where a packet's payload belongs: counter, size if said, offset, and how many bytes it has
+abbrev pub special_pointers : ℕ → Option ℕ → ℕ → ℕ → List Pointer
+special_pointers counter size offset bytes =
+    immediate 1 counter ∷ (size_pointers size ++ (immediate 3 offset ∷ immediate 4 bytes ∷ []))
+
 -- a type as three bytes
 abbrev pub type_bytes : ItemType → List ℕ
 type_bytes t = t.letter ∷ bytes_high_first 2 t.bits

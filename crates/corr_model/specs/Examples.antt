@@ -1,9 +1,9 @@
 -- The plan, the packets and the streams of the worked examples. This project's own.
-use Rattle.std.specs.Prelude.{ℕ, ◌+◌, ◌*◌, ◌^◌, true, false, ◌==◌, if◌then◌else◌, ℤ, List, [], ◌∷◌, ◌++◌, length, take, drop, map, Option, Some, None}
+use Rattle.std.specs.Prelude.{ℕ, ◌+◌, ◌*◌, ◌^◌, true, false, ◌==◌, if◌then◌else◌, ℤ, List, [], ◌∷◌, ◌++◌, length, take, drop, map, Option, Some}
 use Rattle.corr_model.specs.declared.plan.Plan.{Plan}
 use Rattle.corr_model.specs.declared.pointer.Pointer.{Pointer}
 use Rattle.corr_model.specs.declared.verdict.Verdict.{Verdict}
-use Rattle.corr_model.specs.Descriptors.{immediate, addressed, packet_bytes}
+use Rattle.corr_model.specs.Descriptors.{immediate, addressed, special_pointers, packet_bytes}
 use Rattle.corr_model.specs.Streams.{heaps}
 use Rattle.corr_model.specs.Visibilities.{Complex, Lists, vis}
 use Rattle.corr_model.specs.Outputs.{products}
@@ -31,16 +31,10 @@ small_plan = record {
   preset = true;
 }
 
--- a heap size as a pointer, where one is said
-abbrev pub size_pointers : Option ℕ → List Pointer
-size_pointers None = []
-size_pointers (Some size) = immediate 2 size ∷ []
-
 -- a packet: counter, size if said, offset, the length of its payload, the heap's pointers, and its payload
 abbrev pub example_packet : ℕ → Option ℕ → ℕ → List Pointer → List ℕ → List ℕ
 example_packet counter size offset pointers payload =
-    packet_bytes (immediate 1 counter ∷ (size_pointers size ++ (immediate 3 offset ∷ immediate 4 (length payload) ∷ pointers)))
-    payload
+    packet_bytes (special_pointers counter size offset (length payload) ++ pointers) payload
 
 -- the items of a voltage heap: timestamp, antenna, and voltages from offset 0
 abbrev pub voltage_pointers : ℕ → ℕ → List Pointer

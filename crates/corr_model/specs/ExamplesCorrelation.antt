@@ -6,7 +6,7 @@ use Rattle.corr_model.specs.Packets.{Parts, packet_in}
 use Rattle.corr_model.specs.Visibilities.{Complex, part_of, none_yet}
 use Rattle.corr_model.specs.Outputs.{packets_of}
 use Rattle.corr_model.specs.Streams.{contents_of}
-use Rattle.corr_model.specs.Built.{heap_of_one}
+use Rattle.corr_model.specs.Assembly.{pointers_of}
 use Rattle.corr_model.specs.Examples.{small_plan, complex, voltage_heap}
 
 -- samples whose every part is −128
@@ -60,7 +60,7 @@ spelled strings = filter_map packet_in strings
 
 -- the contents of the descriptors in a packet that is a heap of its own
 abbrev pub own_contents : Parts → List (List ℕ)
-own_contents p = contents_of (heap_of_one p)
+own_contents p = contents_of (record { counter = p.counter; pointers = pointers_of (p ∷ []); payload = p.payload })
 
 -- a heap of so many bytes in packets of 64: of each its offset and its length
 abbrev pub cut : ℕ → List (ℕ × ℕ)

@@ -6,7 +6,7 @@ use Rattle.corr_model.specs.declared.item.Dim.{Dim}
 use Rattle.corr_model.specs.declared.item.Dim.TheVariants.{Fixed, Variable}
 use Rattle.corr_model.specs.Items.{Group}
 use Rattle.corr_model.specs.Descriptors.{DescribedItem, immediate, addressed, word_of, descriptor_bytes}
-use Rattle.corr_model.specs.Tables.{item_type_of, voltages}
+use Rattle.corr_model.specs.Tables.{item_type_of, scalar, voltages}
 use Rattle.corr_model.specs.Examples.{small_plan, example_packet, first_packet, second_samples, voltage_heap, with_bytes}
 use Rattle.corr_model.specs.ExamplesOutput.{missing_bytes, timestamp_bytes}
 use Rattle.corr_model.specs.ExamplesVerdicts.{descriptor_heap}
@@ -83,6 +83,18 @@ wider_voltages = voltages_with (2 ∷ 1 ∷ 2 ∷ 2 ∷ []) (item_type_of 105 8 
 -- the voltages described with two channels, and then again with one
 abbrev pub wider_and_back : List (List ℕ)
 wider_and_back = descriptor_bytes wider_voltages ∷ descriptor_bytes (voltages small_plan) ∷ []
+
+-- the table that describes timestamp, antenna and voltages
+abbrev pub voltage_table : List DescribedItem
+voltage_table = scalar 0x1600 ∷ scalar 0x4101 ∷ voltages small_plan ∷ []
+
+-- the same table with voltages of two channels
+abbrev pub wider_table : List DescribedItem
+wider_table = scalar 0x1600 ∷ scalar 0x4101 ∷ wider_voltages ∷ []
+
+-- the voltages described with two channels, then `missing`, and then the voltages with one channel
+abbrev pub wider_missing_and_back : List (List ℕ)
+wider_missing_and_back = descriptor_bytes wider_voltages ∷ missing_bytes ∷ descriptor_bytes (voltages small_plan) ∷ []
 
 -- pointers of id 6 in both modes, the first of them immediate
 abbrev pub twice_six : Group

@@ -1,11 +1,13 @@
 -- Streams of the worked examples of verdicts, endings and floors. This project's own.
-use Rattle.std.specs.Prelude.{ℕ, false, List, [], ◌∷◌, ◌++◌, length, map, replicate, Some, None}
+use Rattle.std.specs.Prelude.{ℕ, Bool, false, List, [], ◌∷◌, ◌++◌, length, map, replicate, take, Option, Some, None}
 use Rattle.std.specs.List.{flat_map, zip}
 use Rattle.corr_model.specs.declared.plan.Plan.{Plan}
 use Rattle.corr_model.specs.declared.pointer.Pointer.{Pointer}
 use Rattle.corr_model.specs.Lists.{numbers}
+use Rattle.corr_model.specs.Windows.{placed_in}
 use Rattle.corr_model.specs.Descriptors.{DescribedItem, immediate, addressed, descriptor_bytes}
-use Rattle.corr_model.specs.Tables.{scalar, voltages}
+use Rattle.corr_model.specs.Tables.{scalar, voltages, is_bad_after}
+use Rattle.corr_model.specs.PacketVerdicts.{Report, next_evicted}
 use Rattle.corr_model.specs.Examples.{small_plan, example_packet, voltage_heap, voltage_pointers, descriptor_pointers, stop_heap, first_packet, first_samples, second_samples}
 
 -- `timestamp`, `antenna` and `voltages` as a sender describes them
@@ -95,3 +97,43 @@ immediate_voltages = with_pointers (immediate 0x1600 0 ∷ immediate 0x4101 0 �
 -- a stop heap in two packets of one byte
 abbrev pub stop_in_halves : List (List ℕ)
 stop_in_halves = example_packet 1 None 0 (immediate 6 2 ∷ []) (7 ∷ []) ∷ example_packet 1 (Some 2) 1 [] (8 ∷ []) ∷ []
+
+-- a report in which nothing is counted
+abbrev pub nothing_counted : Report
+nothing_counted = record {
+  taken = 0;
+  refused = 0;
+  dropped = 0;
+  stale = 0;
+  evicted = 0;
+  baddesc = 0;
+  undescribed = 0;
+  foreign = 0;
+  before = 0;
+  offgrid = 0;
+  wild = 0;
+  beyond = 0;
+  late = 0;
+  twice = 0;
+  used = 0;
+}
+
+-- the descriptors of numbers with so many ids from this one on
+abbrev pub described_ids : ℕ → ℕ → List (List ℕ)
+described_ids from count = map (λ id. descriptor_bytes (scalar id)) (numbers from count)
+
+-- after the descriptors of so many ids from 1 on, that of this id is bad
+abbrev pub is_bad_id : Plan → ℕ → ℕ → Bool
+is_bad_id plan count id = is_bad_after plan (described_ids 1 count) (descriptor_bytes (scalar id))
+
+-- 65 ids described in two heaps
+abbrev pub described_in_two_heaps : List (List ℕ)
+described_in_two_heaps = descriptor_heap 1 (described_ids 1 40) ∷ descriptor_heap 2 (described_ids 41 25) ∷ []
+
+-- for each heard packet, the counter of the heap that it evicts
+abbrev pub evicted_in_turn : Plan → List (List ℕ) → List (Option ℕ)
+evicted_in_turn plan l = map (λ q. next_evicted plan.window (take q.place (placed_in plan l)) q.packet) (placed_in plan l)
+
+-- a stop heap that brings a descriptor of one byte, which is none
+abbrev pub stop_with_descriptor : ℕ → List ℕ
+stop_with_descriptor counter = example_packet counter (Some 1) 0 (immediate 6 2 ∷ addressed 5 0 ∷ []) (9 ∷ [])

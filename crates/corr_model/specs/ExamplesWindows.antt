@@ -1,5 +1,5 @@
 -- Streams of the worked examples of windows and heaps, and what is looked at in them. This project's own.
-use Rattle.std.specs.Prelude.{ℕ, ◌==◌, if◌then◌else◌, List, [], ◌∷◌, map, Option, Some, None}
+use Rattle.std.specs.Prelude.{ℕ, ◌==◌, true, false, if◌then◌else◌, List, [], ◌∷◌, map, slice_get, Option, Some, None, option_and_then}
 use Rattle.std.specs.List.{flat_map}
 use Rattle.corr_model.specs.declared.plan.Plan.{Plan}
 use Rattle.corr_model.specs.declared.heap.DropCause.{DropCause}
@@ -8,6 +8,7 @@ use Rattle.corr_model.specs.Descriptors.{immediate, addressed}
 use Rattle.corr_model.specs.Windows.{openings, members, placed_in}
 use Rattle.corr_model.specs.Assembly.{Fate, fates, kept}
 use Rattle.corr_model.specs.Streams.{whole_in}
+use Rattle.corr_model.specs.LiveHeaps.{LiveHeap}
 use Rattle.corr_model.specs.Examples.{small_plan, example_packet, voltage_pointers, first_packet, both_heaps, one_heap}
 
 -- a packet without pointers of the heap
@@ -83,6 +84,10 @@ other_half counter = piece counter (Some 4) 2 (3 ∷ 4 ∷ [])
 abbrev pub halves : List (List ℕ)
 halves = half 1 ∷ half 2 ∷ half 3 ∷ other_half 1 ∷ []
 
+-- heap 1 in both halves, and then the first halves of heaps 2, 3 and 4
+abbrev pub whole_then_halves : List (List ℕ)
+whole_then_halves = half 1 ∷ other_half 1 ∷ half 2 ∷ half 3 ∷ half 4 ∷ []
+
 -- 1a, 2a, 1b, 3a, 1b: with a window of 2 the first 1b is just in time, and the second one is not
 abbrev pub just_in_time : List (List ℕ)
 just_in_time = half 1 ∷ half 2 ∷ other_half 1 ∷ half 3 ∷ other_half 1 ∷ []
@@ -103,6 +108,10 @@ dropped_ones =
     ∷ pointed 3 100 65
     ∷ []
 
+-- two halves of a heap, and between them this packet
+abbrev pub between_halves : List ℕ → List (List ℕ)
+between_halves packet = half 1 ∷ packet ∷ other_half 1 ∷ []
+
 -- four bytes from offset 2, and then the two bytes before them in a packet that says this size
 abbrev pub sized_late : ℕ → List (List ℕ)
 sized_late size = piece 1 None 2 (1 ∷ 2 ∷ 3 ∷ 4 ∷ []) ∷ piece 1 (Some size) 0 (5 ∷ 6 ∷ []) ∷ []
@@ -122,3 +131,37 @@ shared_pointers =
     example_packet 1 None 0 (immediate 10 1 ∷ addressed 10 1 ∷ immediate 10 1 ∷ []) []
     ∷ example_packet 1 (Some 0) 0 (addressed 10 1 ∷ immediate 10 2 ∷ immediate 11 1 ∷ []) []
     ∷ []
+
+-- a heap that becomes whole, and then a packet without payload that brings a pointer
+abbrev pub pointed_late : List (List ℕ)
+pointed_late = first_packet ∷ example_packet 1 None 0 (immediate 10 1 ∷ []) [] ∷ []
+
+-- the byte at a place of these, where one is there
+abbrev pub byte_there : List (Option ℕ) → ℕ → Option ℕ
+byte_there bytes k = option_and_then (λ byte. byte) (slice_get bytes k)
+
+-- a heap of which nothing is kept
+abbrev pub opened_heap : ℕ → LiveHeap
+opened_heap counter = record { counter = counter; size = None; ending = 0; byte = byte_there []; pointers = []; whole = false }
+
+-- a heap of which the first half is kept
+abbrev pub half_heap : ℕ → LiveHeap
+half_heap counter = record (opened_heap counter) { size = Some 4; ending = 2; byte = byte_there (Some 1 ∷ Some 2 ∷ []) }
+
+-- a heap of which the other half is kept
+abbrev pub other_half_heap : ℕ → LiveHeap
+other_half_heap counter = record (opened_heap counter) { size = Some 4; ending = 4; byte = byte_there (None ∷ None ∷ Some 3 ∷ Some 4 ∷ []) }
+
+-- the first heap of antenna 0, whole
+abbrev pub first_heap : LiveHeap
+first_heap = record (opened_heap 1) {
+  size = Some 4;
+  ending = 4;
+  byte = byte_there (Some 1 ∷ Some 2 ∷ Some 3 ∷ Some 0 ∷ []);
+  pointers = voltage_pointers 0 0;
+  whole = true;
+}
+
+-- the heap of the first three of the reversed pieces
+abbrev pub three_pieces_heap : LiveHeap
+three_pieces_heap = record (opened_heap 1) { ending = 4; byte = byte_there (None ∷ Some 2 ∷ Some 3 ∷ Some 0 ∷ []) }

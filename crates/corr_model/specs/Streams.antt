@@ -12,7 +12,8 @@ use Rattle.corr_model.specs.Lists.{in_turn, fronts, through_first, numbers, pass
 use Rattle.corr_model.specs.Windows.{placed_in}
 use Rattle.corr_model.specs.Assembly.{WholeHeap, whole_heaps}
 use Rattle.corr_model.specs.Items.{Group, number_item, descriptor_contents}
-use Rattle.corr_model.specs.Tables.{Sight, sight, readable_descriptors}
+use Rattle.corr_model.specs.Descriptors.{DescribedItem}
+use Rattle.corr_model.specs.Tables.{Sight, sight, readable_descriptors, TableStandsFor}
 
 -- the items of a whole heap
 abbrev pub group_of : WholeHeap → Group
@@ -93,9 +94,13 @@ judged_as plan antenna js heap seen = record {
   verdict = if stops heap then Stop else heap_verdict plan antenna js seen;
 }
 
+-- the contents of the descriptors of these heaps, in order
+abbrev pub described_by : List Judged → List (List ℕ)
+described_by js = flat_map (λ j. contents_of j.heap) js
+
 -- the descriptors so far: those of the earlier heaps and its own
 abbrev pub contents_so_far : List Judged → WholeHeap → List (List ℕ)
-contents_so_far js heap = flat_map (λ j. contents_of j.heap) js ++ contents_of heap
+contents_so_far js heap = described_by js ++ contents_of heap
 
 -- a whole heap with what it says by the descriptors so far, its own included, and its verdict by the earlier heaps
 abbrev pub judge_next : Plan → ℕ → List Judged → WholeHeap → Judged
@@ -104,6 +109,10 @@ judge_next plan antenna js heap = judged_as plan antenna js heap (sight plan (re
 -- the whole heaps up to and including the first stop heap, each with its verdict
 abbrev pub heaps : Plan → ℕ → List (List ℕ) → List Judged
 heaps plan antenna l = in_turn (judge_next plan antenna) (through_first stops (whole_in plan l))
+
+-- the table of a list: its entries stand for the descriptors of the list's judged heaps
+abbrev pub IsTableOf : Plan → ℕ → List DescribedItem → List (List ℕ) → Type 0
+IsTableOf plan antenna entries l = TableStandsFor plan entries (described_by (heaps plan antenna l))
 
 -- a stop heap is whole within these strings
 abbrev pub has_stopped : Plan → List (List ℕ) → Bool

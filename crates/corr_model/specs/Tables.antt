@@ -2,7 +2,7 @@
 -- SPEAD protocol definition, version 4: items are described in the stream itself, and a later descriptor counts from
 -- then on. The item ids of voltages, their shape, the preset, the limit of 64 ids, and that a heap's own descriptors
 -- count for it, are this project's own.
-use Rattle.std.specs.Prelude.{ℕ, Bool, true, false, ◌&&◌, ◌==◌, nat_le, if◌then◌else◌, List, [], ◌∷◌, ◌++◌, length, take, map, filter, Option, Some, None, option_and_then, IsSome}
+use Rattle.std.specs.Prelude.{◌≡◌, ℕ, ◌-◌, Bool, true, false, not, ◌&&◌, ◌==◌, nat_le, if◌then◌else◌, List, [], ◌∷◌, ◌++◌, length, take, map, filter, find, count_by, Option, Some, None, option_and_then, IsSome, Result, Ok, Err}
 use Rattle.std.specs.Result.{result_ok}
 use Rattle.std.specs.List.{filter_map, list_any, list_all}
 use Rattle.corr_model.specs.declared.plan.Plan.{Plan}
@@ -10,7 +10,8 @@ use Rattle.corr_model.specs.declared.item.ItemType.{ItemType}
 use Rattle.corr_model.specs.declared.item.Dim.{Dim}
 use Rattle.corr_model.specs.declared.item.Dim.TheVariants.{Fixed, Variable}
 use Rattle.corr_model.specs.Plans.{sample_bytes}
-use Rattle.corr_model.specs.Lists.{distinct, last_one, passes}
+use Rattle.corr_model.specs.declared.item.DescRefusal.{DescRefusal}
+use Rattle.corr_model.specs.Lists.{fronts, distinct, last_one, passes}
 use Rattle.corr_model.specs.Items.{Group, number_item, addressed_content}
 use Rattle.corr_model.specs.Descriptors.{DescribedItem, described_in}
 
@@ -101,3 +102,29 @@ sight plan ds g = sight_of (described_number ds g 0x1600) (described_number ds g
 -- the heap is described so that its samples can be read
 abbrev pub Readable : Plan → List DescribedItem → Group → Type 0
 Readable plan ds g = IsSome (sight plan ds g)
+
+-- with these ids a table has no room for this one: it would be the 65th
+abbrev pub is_full_for : List ℕ → ℕ → Bool
+is_full_for ids id = nat_le 64 (length ids) && not (list_any (λ x. x == id) ids)
+
+-- what is read of a content changes nothing in a table with these ids: it is refused, or its id would be the 65th
+abbrev pub is_bad_among : List ℕ → Result DescribedItem DescRefusal → Bool
+is_bad_among ids (Err refusal) = true
+is_bad_among ids (Ok d) = is_full_for ids d.id
+
+-- the content that follows these is bad
+abbrev pub is_bad_after : Plan → List (List ℕ) → List ℕ → Bool
+is_bad_after plan before c = is_bad_among (table_ids (readable_descriptors plan before)) (described_in c)
+
+-- the last of these contents is bad
+abbrev pub ends_bad : Plan → List (List ℕ) → Bool
+ends_bad plan front = passes (is_bad_after plan (take (length front - 1) front)) (last_one front)
+
+-- the number of bad descriptors among these contents
+abbrev pub bad_count : Plan → List (List ℕ) → ℕ
+bad_count plan contents = count_by (ends_bad plan) (fronts contents)
+
+-- the table stands for these contents: it has an entry for each id that counts, in order, and it is the last of that id
+pub record TableStandsFor (plan : Plan) (entries : List DescribedItem) (contents : List (List ℕ)) : Type 0 where
+  pub ids : map (λ d. d.id) entries ≡ table_ids (readable_descriptors plan contents)
+  pub each : (id : ℕ) → find (λ d. d.id == id) entries ≡ table_entry (readable_descriptors plan contents) id

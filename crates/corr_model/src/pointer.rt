@@ -1,5 +1,7 @@
 //! Item pointers, and the reasons why bytes are no packet.
 
+ghost use Rattle.std.specs.Prelude.{◌≡◌};
+
 /// An item pointer of the heap: one mode bit, an id of 15 bits and 48 bits of value.
 #[derive(Clone, Copy, Debug, PartialEq, Eq)]
 pub struct Pointer {
@@ -9,6 +11,40 @@ pub struct Pointer {
     pub id: u32,
     /// The value if immediate, else the offset in the heap's payload in bytes; below 2^48.
     pub value: u64,
+}
+
+impl Pointer {
+    ghost use Rattle.corr_model.specs.Descriptors.{immediate, addressed};
+    ghost use Rattle.corr_model.specs.Assembly.{are_same};
+
+    /// A pointer with this id, an id of 15 bits, and this value of 48 bits.
+    pub fn immediate(id: u32, value: u64) -> Pointer
+        ensures { result ≡ immediate id value }
+    {
+        Pointer {
+            immediate: true,
+            id,
+            value,
+        }
+    }
+
+    /// A pointer with this id, an id of 15 bits, to this offset in the heap's payload in bytes.
+    pub fn addressed(id: u32, offset: u64) -> Pointer
+        ensures { result ≡ addressed id offset }
+    {
+        Pointer {
+            immediate: false,
+            id,
+            value: offset,
+        }
+    }
+
+    /// Whether two pointers are one: mode, id and value agree.
+    pub fn is_same(&self, other: &Pointer) -> bool
+        ensures { result ≡ are_same self.now other.now }
+    {
+        self.immediate == other.immediate && self.id == other.id && self.value == other.value
+    }
 }
 
 /// Why bytes are no packet, in the order of the tests: the first that applies is the refusal.

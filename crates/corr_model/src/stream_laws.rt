@@ -4,9 +4,10 @@ ghost use Rattle.std.specs.Prelude.{◌≡◌, ◌<◌, ◌≤◌, ◌++◌, ◌
 ghost use Rattle.std.specs.List.{list_any};
 ghost use Rattle.std.specs.Option.{option_to_list};
 ghost use Rattle.corr_model.specs.declared.plan.Plan.{Plan};
-ghost use Rattle.corr_model.specs.Packets.{Parts};
+ghost use Rattle.corr_model.specs.Packets.{Parts, packet_in};
 ghost use Rattle.corr_model.specs.Windows.{heard_in, heard, Placed, placed, place_next, is_member, members, placed_in};
 ghost use Rattle.corr_model.specs.Assembly.{fates, fate_next, WholeHeap, whole_now, whole_heaps};
+ghost use Rattle.corr_model.specs.PacketVerdicts.{heap_made, next_outcome};
 ghost use Rattle.corr_model.specs.Streams.{whole_in, heaps, judge_next, has_stopped, ending, taken, floor, is_used_at, cell, column};
 
 /// Below the packet limit a byte string that is heard comes after those heard before it, and another changes nothing.
@@ -57,6 +58,22 @@ pub fn next_whole_in()
         → whole_in plan (l ++ b ∷ []) ≡ whole_in plan l }
     ensures past { (plan : Plan) (l rest : List (List ℕ)) → plan.packet_limit ≤ length l
         → whole_in plan (l ++ rest) ≡ whole_in plan l }
+{}
+
+/// Below the packet limit the heap that becomes whole at a byte string is the one that its packet makes, by what the
+/// packet is to its heap, if it makes one. A byte string that spells no packet makes none.
+pub fn next_made()
+    ensures now { (plan : Plan) (l : List (List ℕ)) (b : List ℕ) (p : Parts)
+        → length l < plan.packet_limit → heard_in plan.heap_limit b ≡ Some p
+        → whole_now plan.window (placed_in plan (l ++ b ∷ []))
+        ≡ heap_made (next_outcome plan.heap_limit plan.window (heard plan l) p) }
+    ensures whole { (plan : Plan) (l : List (List ℕ)) (b : List ℕ) (p : Parts)
+        → length l < plan.packet_limit → packet_in b ≡ Some p
+        → whole_in plan (l ++ b ∷ []) ≡ whole_in plan l
+        ++ option_to_list (heap_made (next_outcome plan.heap_limit plan.window (heard plan l) p)) }
+    ensures refused { (plan : Plan) (l : List (List ℕ)) (b : List ℕ)
+        → length l < plan.packet_limit → packet_in b ≡ None
+        → whole_in plan (l ++ b ∷ []) ≡ whole_in plan l }
 {}
 
 /// Before a stop heap, a whole heap more is judged by those before it. With none more, and after the end, the judged

@@ -1,6 +1,6 @@
-//! Each call of a plan and of the baselines once, by values worked by hand.
+//! Each call of a plan, of the baselines and of a pointer once, by values worked by hand.
 
-use crate::{Plan, baseline, pair};
+use crate::{Plan, Pointer, baseline, pair};
 
 // The plan of the small worked examples.
 const SMALL: Plan = Plan {
@@ -102,4 +102,21 @@ fn baselines_and_their_antennas(rt: HostRuntime) {
         assert_eq!(rt; (first, second), antennas);
         assert_eq!(rt; baseline(first, second), number);
     }
+}
+
+#[test]
+fn pointers_of_each_mode(rt: HostRuntime) {
+    let number = Pointer {
+        immediate: true,
+        id: 0x1600,
+        value: 7,
+    };
+    let place = Pointer {
+        immediate: false,
+        id: 0x4300,
+        value: 7,
+    };
+    assert_eq!(rt; Pointer::immediate(0x1600, 7), number);
+    assert_eq!(rt; Pointer::addressed(0x4300, 7), place);
+    assert!(rt; number.is_same(&number) && !number.is_same(&place));
 }
