@@ -1,3 +1,5 @@
 pub mod DecodeLemmas
 pub mod FindLemmas
+pub mod NumberLemmas
 pub mod WireLemmas
+pub mod WriteLemmas

@@ -5,28 +5,13 @@ ghost use Rattle.corr_model.specs.Packets.{Parts, Spells, front_refusal, pointer
 ghost use Rattle.spead_wire.specs.Reading.{IsReading};
 ghost use Rattle.spead_wire.specs.Widths.{HasPointerWidths};
 
+use crate::layout::{
+    COUNTER_ID, ID_WIDTH, LENGTH_ID, MAGIC, OFFSET_ID, SIZE_ID, VALUE_WIDTH, VERSION,
+};
 use crate::packet::Packet;
 use crate::words::Words;
 use byteorder::{BigEndian, ByteOrder};
 use corr_model::Refusal;
-
-const MAGIC: u8 = 0x53;
-
-const VERSION: u8 = 4;
-
-// The flavour, as widths in bytes: of an item pointer's mode and id, and of its value.
-const ID_WIDTH: u8 = 2;
-
-const VALUE_WIDTH: u8 = 6;
-
-// The ids of the item pointers that say where the packet belongs in its heap.
-const COUNTER_ID: u32 = 1;
-
-const SIZE_ID: u32 = 2;
-
-const OFFSET_ID: u32 = 3;
-
-const LENGTH_ID: u32 = 4;
 
 /// The packet that the bytes spell, or the first reason why they spell none.
 ///

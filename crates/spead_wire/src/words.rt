@@ -3,12 +3,10 @@
 ghost use Rattle.std.specs.Prelude.{◌≡◌, ◌<◌, ◌≤◌, ◌+◌, ◌*◌, ◌^◌, ℕ, List, length, drop, map, IfSome};
 ghost use Rattle.corr_model.specs.Packets.{pointer_of, words_in, last_value};
 
+use crate::layout::MODE;
 use byteorder::{BigEndian, ByteOrder};
 use corr_model::Pointer;
 use std::marker::Model;
-
-// The mode bit of an item pointer's first 16 bits; the other 15 are the id.
-const MODE: u16 = 0x8000;
 
 /// The item pointer in eight bytes.
 fn read_pointer(word: &[u8]) -> Pointer
