@@ -1,0 +1,9 @@
+pub mod DistinctLemmas
+pub mod EntryLemmas
+pub mod FilledLemmas
+pub mod ItemLemmas
+pub mod NumberLemmas
+pub mod OwnLemmas
+pub mod PutLemmas
+pub mod ReadLemmas
+pub mod WrittenLemmas

@@ -1,0 +1,5 @@
+pub mod AllItems
+pub mod Filled
+pub mod Valid
+pub mod Written
+pub mod Numbers
