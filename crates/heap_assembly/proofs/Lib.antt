@@ -1,0 +1,10 @@
+pub mod ItemLemmas
+pub mod MarkLemmas
+pub mod PointerLemmas
+pub mod CountLemmas
+pub mod SoundLemmas
+pub mod KeptLemmas
+pub mod KeepingLemmas
+pub mod FrontLemmas
+pub mod StepLemmas
+pub mod WholeLemmas

@@ -1,0 +1,5 @@
+pub mod Heaps
+pub mod Marks
+pub mod LiveStates
+pub mod Inside
+pub mod Steps
