@@ -1,0 +1,4 @@
+pub mod WindowStates
+pub mod Inside
+pub mod Steps
+pub mod Takes
