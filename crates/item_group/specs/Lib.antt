@@ -1,0 +1,4 @@
+pub mod Holding
+pub mod Applying
+pub mod Counting
+pub mod Looking
