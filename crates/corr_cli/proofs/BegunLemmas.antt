@@ -1,15 +1,15 @@
 -- What a run over begun sources comes to, seen from before they were begun.
-use Rattle.std.proofs.Common.{◌≡◌, ◌≤◌, ℕ, true, false, List, [], get_or, Option, Some, None, refl, sym, ◌∙◌, subst}
+use Rattle.std.proofs.Common.{◌≡◌, ◌≤◌, ℕ, false, List, [], get_or, Option, Some, None, refl, ◌∙◌, subst}
 use Rattle.std.specs.Prelude.{Result, Ok, Err, IfOk}
 use Rattle.corr_model.specs.declared.plan.Plan.{Plan}
 use Rattle.corr_model.specs.Outputs.{output}
 use Rattle.corr_site.specs.Outside.{Appended, Rises}
 use Rattle.corr_site.proofs.Laws.{appended_nothing}
 use Rattle.corr_cli.specs.declared.answer.Answer.{Answer}
-use Rattle.corr_cli.specs.declared.answer.Answer.TheVariants.{Usage, Settings, UnbuiltOutput, UnbuiltInput, NotBegun, Sent, SinkFault, NoMemory}
+use Rattle.corr_cli.specs.declared.answer.Answer.TheVariants.{Usage, Settings, NotBegun, Sent, SinkFault, NoMemory}
 use Rattle.corr_cli.specs.Sending.{AppendsPackets}
-use Rattle.corr_cli.specs.Sourcing.{KeepsEach, AreBegun, HasLeastRise, GivesUnbuilt}
-use Rattle.corr_cli.specs.Runs.{Seen, AreGiven, GaveTaken, NoneUnbuilt, SentFront, SentNothing, AllBegun, IsOfRun, Correlates, RunsPlan, list_of}
+use Rattle.corr_cli.specs.Sourcing.{KeepsEach, AreBegun, HasLeastRise}
+use Rattle.corr_cli.specs.Runs.{Seen, AreGiven, GaveTaken, SentFront, SentNothing, AllBegun, IsOfRun, Correlates, RunsPlan, list_of}
 
 -- what was seen before the sources and the sink were begun, which changed no list, no count and nothing that was sent
 pub record BeginsQuietly {S : Type 0} (mid : Seen S) (old : List S) (sent_before : Option (List (List ℕ))) (sink_before : ℕ) : Type 0 where
@@ -29,16 +29,6 @@ module _ {S : Type 0} (plan : Plan) (mid : Seen S) (old : List S) (sent_before :
 
   taken_before : GaveTaken plan mid.gives mid.given mid.old mid.now → GaveTaken plan mid.gives mid.given old mid.now
   taken_before h = record { each = λ a d strings within told none. h.each a d strings within (quiet.gives.each a d ∙ told) (quiet.given.each a d ∙ none) }
-
-  built_before : NoneUnbuilt plan mid.gives mid.given mid.old → NoneUnbuilt plan mid.gives mid.given old
-  built_before h = record { each = λ a d strings within told none. h.each a d strings within (quiet.gives.each a d ∙ told) (quiet.given.each a d ∙ none) }
-
-  unbuilt_before : GivesUnbuilt plan mid.gives mid.given mid.old → GivesUnbuilt plan mid.gives mid.given old
-  unbuilt_before h = record {
-    antenna = h.antenna;
-    within = h.within;
-    unbuilt = λ d strings told none. h.unbuilt d strings (quiet.gives.each h.antenna d ∙ told) (quiet.given.each h.antenna d ∙ none);
-  }
 
   least_before : (fault : Option ℕ) → HasLeastRise mid.faults plan.antennas mid.old mid.now fault → HasLeastRise mid.faults plan.antennas old mid.now fault
   least_before None h = record { each = λ a d. h.each a d ∙ quiet.faults.each a d }
@@ -90,7 +80,6 @@ module _ {S : Type 0} (plan : Plan) (mid : Seen S) (old : List S) (sent_before :
     all_begun = begun_before h.all_begun;
     output = λ lists is. subst (λ before. Appended before (output plan (list_of lists)) mid.sent) quiet.sent (h.output lists (given_later lists is));
     taken = taken_before h.taken;
-    built = built_before h.built;
     count = h.count;
     least = least_before fault h.least;
     sink_kept = h.sink_kept ∙ quiet.sink;
@@ -98,14 +87,11 @@ module _ {S : Type 0} (plan : Plan) (mid : Seen S) (old : List S) (sent_before :
   runs_before (Ok SinkFault) h = record {
     sources = h.sources;
     output = λ lists is. subst (λ before. AppendsPackets before mid.sent (output plan (list_of lists))) quiet.sent (h.output lists (given_later lists is));
-    built = λ begun. built_before (h.built begun);
     sink_rose = subst (λ n. Rises n mid.sink_faults) quiet.sink h.sink_rose;
   }
-  runs_before (Ok UnbuiltInput) h = record { all_begun = begun_before h.all_begun; found = unbuilt_before h.found; quiet = nothing_before h.quiet }
   runs_before (Ok (NotBegun antenna)) h = absurd h
   runs_before (Ok Usage) h = absurd h
   runs_before (Ok (Settings refusal)) h = absurd h
-  runs_before (Ok UnbuiltOutput) h = absurd h
   runs_before (Ok NoMemory) h = absurd h
   runs_before (Err e) h = nothing_before h
 
@@ -115,7 +101,6 @@ pub sink_not_begun : {S : Type 0} (plan : Plan) (seen : Seen S) → AreBegun see
 sink_not_begun plan seen begun same unbegun rose = record {
   sources = begun;
   output = λ lists is. record { front = []; rest = output plan (list_of lists); whole = refl; appends = same ∙ appended_nothing seen.sent_before };
-  built = λ is. absurd (let e : true ≡ false = sym is ∙ unbegun in cc);
   sink_rose = rose;
 }
 
@@ -123,9 +108,7 @@ sink_not_begun plan seen begun same unbegun rose = record {
 pub is_of_run : {S E : Type 0} (plan : Plan) (seen : Seen S) (r : Result Answer E) → RunsPlan plan seen r → IfOk r IsOfRun
 is_of_run plan seen (Ok Usage) h = absurd h
 is_of_run plan seen (Ok (Settings refusal)) h = absurd h
-is_of_run plan seen (Ok UnbuiltOutput) h = absurd h
 is_of_run plan seen (Ok NoMemory) h = absurd h
-is_of_run plan seen (Ok UnbuiltInput) h = tt
 is_of_run plan seen (Ok (NotBegun antenna)) h = tt
 is_of_run plan seen (Ok (Sent packets fault)) h = tt
 is_of_run plan seen (Ok SinkFault) h = tt
@@ -135,10 +118,8 @@ is_of_run plan seen (Err e) h = tt
 pub as_run : {S E : Type 0} (plan : Plan) (seen : Seen S) (r : Result Answer E) → Correlates plan seen r → RunsPlan plan seen r
 as_run plan seen (Ok (Sent packets fault)) h = h
 as_run plan seen (Ok SinkFault) h = h
-as_run plan seen (Ok UnbuiltInput) h = h
 as_run plan seen (Ok (NotBegun antenna)) h = absurd h
 as_run plan seen (Ok Usage) h = absurd h
 as_run plan seen (Ok (Settings refusal)) h = absurd h
-as_run plan seen (Ok UnbuiltOutput) h = absurd h
 as_run plan seen (Ok NoMemory) h = absurd h
 as_run plan seen (Err e) h = h

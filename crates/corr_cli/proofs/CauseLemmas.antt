@@ -1,17 +1,16 @@
 -- What the status of a run tells of it.
-use Rattle.std.proofs.Common.{◌≡◌, ◌<◌, ◌≤◌, ℕ, Bool, true, false, List, [], get_or, Option, Some, None, refl, sym, ◌∙◌, ap, subst, arith, inl, inr}
+use Rattle.std.proofs.Common.{◌≡◌, ◌≤◌, ℕ, Bool, true, false, List, get_or, Option, Some, None, refl, sym, ◌∙◌, ap, subst, arith, inl, inr}
 use Rattle.std.specs.Prelude.{◌⊎◌, ◌==◌, ◌||◌, Result, Ok, Err, IfOk}
 use Rattle.std.proofs.lemmas.Bool.{cases_lt}
 use Rattle.corr_model.specs.declared.plan.Plan.{Plan}
-use Rattle.corr_model.specs.Plans.{visibility_bytes}
 use Rattle.corr_site.specs.Outside.{Rises, Rose}
 use Rattle.corr_cli.specs.declared.answer.Answer.{Answer}
-use Rattle.corr_cli.specs.declared.answer.Answer.TheVariants.{Usage, Settings, UnbuiltOutput, UnbuiltInput, NotBegun, Sent, SinkFault, NoMemory}
+use Rattle.corr_cli.specs.declared.answer.Answer.TheVariants.{Usage, Settings, NotBegun, Sent, SinkFault, NoMemory}
 use Rattle.corr_cli.specs.Words.{numbers_of}
 use Rattle.corr_cli.specs.Settings.{plan_of}
 use Rattle.corr_cli.specs.Texts.{Tells, code_of, unprinted_code}
 use Rattle.corr_cli.specs.Sourcing.{KeepsEach, AreBegun, IsLeastRise, AloneRose}
-use Rattle.corr_cli.specs.Runs.{Seen, RunsPlan, HasPlan, Goes, WordsSay, Comes, SentAll, SentFront, FailedToBegin, FoundUnbuilt, IsWhole, FaultOfSource, NoneRose, NoneUnbuilt, AreGiven}
+use Rattle.corr_cli.specs.Runs.{Seen, RunsPlan, HasPlan, WordsSay, Comes, SentAll, SentFront, FailedToBegin, IsWhole, FaultOfSource, NoneRose}
 use Rattle.corr_cli.proofs.WordLemmas.{some_form, refused_plan}
 
 -- the codes of a run that sent the whole output
@@ -72,20 +71,13 @@ same_plan words plan other has is =
     let said : has.said ≡ is.said = cc in
     has.is_plan ∙ (ap (λ s. plan_of (numbers_of s)) said ∙ sym is.is_plan)
 
-too_large : (words : List (List ℕ)) (plan other : Plan) → HasPlan words plan → HasPlan words other → visibility_bytes plan ≤ 1024 → 1024 < visibility_bytes other → ⊥
-too_large words plan other has is small large =
-    let bytes : visibility_bytes plan ≡ visibility_bytes other = ap visibility_bytes (same_plan words plan other has is) in
-    omega arith
-
 -- what a run of the plan comes to is what the words come to
 pub comes_of_run : {S E : Type 0} (words : List (List ℕ)) (plan : Plan) (seen : Seen S) (r : Result Answer E) → HasPlan words plan → RunsPlan plan seen r → IfOk r (Comes words seen)
 comes_of_run words plan seen (Ok (Sent packets fault)) has h = λ other is. subst (λ p. SentAll p seen packets fault) (same_plan words plan other has is) h
 comes_of_run words plan seen (Ok SinkFault) has h = λ other is. subst (λ p. SentFront p seen) (same_plan words plan other has is) h
-comes_of_run words plan seen (Ok UnbuiltInput) has h = λ other is. subst (λ p. FoundUnbuilt p seen) (same_plan words plan other has is) h
 comes_of_run words plan seen (Ok (NotBegun antenna)) has h = λ other is. subst (λ p. FailedToBegin p seen antenna) (same_plan words plan other has is) h
 comes_of_run words plan seen (Ok Usage) has h = absurd h
 comes_of_run words plan seen (Ok (Settings refusal)) has h = absurd h
-comes_of_run words plan seen (Ok UnbuiltOutput) has h = absurd h
 comes_of_run words plan seen (Ok NoMemory) has h = absurd h
 comes_of_run words plan seen (Err e) has h = tt
 
@@ -106,8 +98,6 @@ module _ {S : Type 0} (words : List (List ℕ)) (seen : Seen S) (code : ℕ) (d 
   unfolding is_whole_code is_early_code
   what_sent Usage say comes told plan has whole = some_form words has.said has.is_form say
   what_sent (Settings refusal) say comes told plan has whole = refused_plan words (record { refusal = refusal; refused = say }) plan has
-  what_sent UnbuiltOutput say comes told plan has whole = clash is_whole_code code 7 (told_as code 7 told) (whole_code code seen.begun plan seen.now whole) refl
-  what_sent UnbuiltInput say comes told plan has whole = clash is_whole_code code 7 (told_as code 7 told) (whole_code code seen.begun plan seen.now whole) refl
   what_sent (NotBegun antenna) say comes told plan has (inl early) = clash is_early_code code 3 (told_as code 3 told) (early_code code early) refl
   what_sent (NotBegun antenna) say comes told plan has (inr late) = not_all_begun plan antenna (comes plan has) late.1
   what_sent (Sent packets fault) say comes told plan has whole = record { packets = packets; fault = fault; sent = comes plan has }
@@ -120,8 +110,6 @@ module _ {S : Type 0} (words : List (List ℕ)) (seen : Seen S) (code : ℕ) (d 
   front_sent SinkFault say comes told plan has four = comes plan has
   front_sent Usage say comes told plan has four = clash_at code 4 1 (told_as code 1 told) four refl refl
   front_sent (Settings refusal) say comes told plan has four = clash_at code 4 2 (told_as code 2 told) four refl refl
-  front_sent UnbuiltOutput say comes told plan has four = clash_at code 4 7 (told_as code 7 told) four refl refl
-  front_sent UnbuiltInput say comes told plan has four = clash_at code 4 7 (told_as code 7 told) four refl refl
   front_sent (NotBegun antenna) say comes told plan has four = clash_at code 4 3 (told_as code 3 told) four refl refl
   front_sent (Sent packets None) say comes (inl e) plan has four = clash_at code 4 0 e four refl refl
   front_sent (Sent packets None) say comes (inr e) plan has four = clash_at code 4 6 e four refl refl
@@ -135,8 +123,6 @@ module _ {S : Type 0} (words : List (List ℕ)) (seen : Seen S) (code : ℕ) (d 
   source_failed (Sent packets (Some antenna)) say comes told plan has three = record { antenna = antenna; least = (comes plan has).least; unsent = λ not_all. absurd (not_all (comes plan has).all_begun.sources) }
   source_failed Usage say comes told plan has three = clash_at code 3 1 (told_as code 1 told) three refl refl
   source_failed (Settings refusal) say comes told plan has three = clash_at code 3 2 (told_as code 2 told) three refl refl
-  source_failed UnbuiltOutput say comes told plan has three = clash_at code 3 7 (told_as code 7 told) three refl refl
-  source_failed UnbuiltInput say comes told plan has three = clash_at code 3 7 (told_as code 7 told) three refl refl
   source_failed (Sent packets None) say comes (inl e) plan has three = clash_at code 3 0 e three refl refl
   source_failed (Sent packets None) say comes (inr e) plan has three = clash_at code 3 6 e three refl refl
   source_failed SinkFault say comes told plan has three = clash_at code 3 4 (told_as code 4 told) three refl refl
@@ -149,42 +135,29 @@ module _ {S : Type 0} (words : List (List ℕ)) (seen : Seen S) (code : ℕ) (d 
   none_failed (Sent packets (Some antenna)) say comes e plan has none = clash_at code 0 3 e none refl refl
   none_failed Usage say comes e plan has none = clash_at code 0 1 e none refl refl
   none_failed (Settings refusal) say comes e plan has none = clash_at code 0 2 e none refl refl
-  none_failed UnbuiltOutput say comes e plan has none = clash_at code 0 7 e none refl refl
-  none_failed UnbuiltInput say comes e plan has none = clash_at code 0 7 e none refl refl
   none_failed (NotBegun antenna) say comes e plan has none = clash_at code 0 3 e none refl refl
   none_failed SinkFault say comes e plan has none = clash_at code 0 4 e none refl refl
   none_failed NoMemory say comes e plan has none = clash_at code 0 5 e none refl refl
 
   -- where nothing stands in the way: status 0, or 5
-  pub runs_whole : (answer : Answer) → WordsSay words answer → Comes words seen answer → code ≡ code_of answer → (plan : Plan) (lists : List (List (List ℕ))) → Goes words plan
-      → AreGiven plan seen.gives seen.given seen.old lists → NoneUnbuilt plan seen.gives seen.given seen.old → NoneRose plan seen.faults seen.old seen.now
+  pub runs_whole : (answer : Answer) → WordsSay words answer → Comes words seen answer → code ≡ code_of answer → (plan : Plan) → HasPlan words plan → NoneRose plan seen.faults seen.old seen.now
       → (Rose seen.sink_faults_before seen.sink_faults → ⊥) → (code ≡ 0) ⊎ (code ≡ 5)
-  runs_whole (Sent packets None) say comes e plan lists goes given built quiet sink_quiet = inl e
-  runs_whole NoMemory say comes e plan lists goes given built quiet sink_quiet = inr e
-  runs_whole Usage say comes e plan lists goes given built quiet sink_quiet = some_form words goes.has_plan.said goes.has_plan.is_form say
-  runs_whole (Settings refusal) say comes e plan lists goes given built quiet sink_quiet = refused_plan words (record { refusal = refusal; refused = say }) plan goes.has_plan
-  runs_whole UnbuiltOutput say comes e plan lists goes given built quiet sink_quiet = absurd (too_large words plan say.plan goes.has_plan say.has_plan goes.one_packet say.large)
-  runs_whole UnbuiltInput say comes e plan lists goes given built quiet sink_quiet =
-      let found = (comes plan goes.has_plan).found in
-      let told = given.told found.antenna d found.within in
-      let none = given.none_given found.antenna d found.within in
-      let is_so = found.unbuilt d (get_or lists found.antenna []) told none in
-      let not_so = built.each found.antenna d (get_or lists found.antenna []) found.within told none in
-      absurd (let h : true ≡ false = sym is_so ∙ not_so in cc)
-  runs_whole (NotBegun antenna) say comes e plan lists goes given built quiet sink_quiet =
-      let failed = (comes plan goes.has_plan).rose in
+  runs_whole (Sent packets None) say comes e plan has quiet sink_quiet = inl e
+  runs_whole NoMemory say comes e plan has quiet sink_quiet = inr e
+  runs_whole Usage say comes e plan has quiet sink_quiet = some_form words has.said has.is_form say
+  runs_whole (Settings refusal) say comes e plan has quiet sink_quiet = refused_plan words (record { refusal = refusal; refused = say }) plan has
+  runs_whole (NotBegun antenna) say comes e plan has quiet sink_quiet =
+      let failed = (comes plan has).rose in
       absurd (quiet.each antenna d failed.within (failed.rose d).rose)
-  runs_whole (Sent packets (Some antenna)) say comes e plan lists goes given built quiet sink_quiet =
-      let least = (comes plan goes.has_plan).least in
+  runs_whole (Sent packets (Some antenna)) say comes e plan has quiet sink_quiet =
+      let least = (comes plan has).least in
       absurd (quiet.each antenna d least.within (least.rose d).rose)
-  runs_whole SinkFault say comes e plan lists goes given built quiet sink_quiet = absurd (sink_quiet (comes plan goes.has_plan).sink_rose.rose)
+  runs_whole SinkFault say comes e plan has quiet sink_quiet = absurd (sink_quiet (comes plan has).sink_rose.rose)
 
 -- no answer's own code is 6, and none that was not printed whole has 0
 pub never_six : (answer : Answer) → code_of answer ≡ 6 → ⊥
 never_six Usage e = clash_at 1 6 1 refl e refl refl
 never_six (Settings refusal) e = clash_at 2 6 2 refl e refl refl
-never_six UnbuiltOutput e = clash_at 7 6 7 refl e refl refl
-never_six UnbuiltInput e = clash_at 7 6 7 refl e refl refl
 never_six (NotBegun antenna) e = clash_at 3 6 3 refl e refl refl
 never_six (Sent packets None) e = clash_at 0 6 0 refl e refl refl
 never_six (Sent packets (Some antenna)) e = clash_at 3 6 3 refl e refl refl
@@ -194,8 +167,6 @@ never_six NoMemory e = clash_at 5 6 5 refl e refl refl
 pub never_zero : (answer : Answer) → unprinted_code answer ≡ 0 → ⊥
 never_zero Usage e = clash_at 1 0 1 refl e refl refl
 never_zero (Settings refusal) e = clash_at 2 0 2 refl e refl refl
-never_zero UnbuiltOutput e = clash_at 7 0 7 refl e refl refl
-never_zero UnbuiltInput e = clash_at 7 0 7 refl e refl refl
 never_zero (NotBegun antenna) e = clash_at 3 0 3 refl e refl refl
 never_zero (Sent packets None) e = clash_at 6 0 6 refl e refl refl
 never_zero (Sent packets (Some antenna)) e = clash_at 3 0 3 refl e refl refl
@@ -211,11 +182,9 @@ module _ {S : Type 0} (words : List (List ℕ)) (seen : Seen S) (code : ℕ) (d 
   -- at status 4 the count of the sink rose
   pub sink_failed : (answer : Answer) → WordsSay words answer → Comes words seen answer → (code ≡ code_of answer) ⊎ (code ≡ unprinted_code answer) → code ≡ 4
       → Rises seen.sink_faults_before seen.sink_faults
-  sink_failed SinkFault say comes told four = (comes say.plan say.goes.has_plan).sink_rose
+  sink_failed SinkFault say comes told four = (comes say.plan say.has_plan).sink_rose
   sink_failed Usage say comes told four = clash_at code 4 1 (told_as code 1 told) four refl refl
   sink_failed (Settings refusal) say comes told four = clash_at code 4 2 (told_as code 2 told) four refl refl
-  sink_failed UnbuiltOutput say comes told four = clash_at code 4 7 (told_as code 7 told) four refl refl
-  sink_failed UnbuiltInput say comes told four = clash_at code 4 7 (told_as code 7 told) four refl refl
   sink_failed (NotBegun antenna) say comes told four = clash_at code 4 3 (told_as code 3 told) four refl refl
   sink_failed (Sent packets None) say comes (inl e) four = clash_at code 4 0 e four refl refl
   sink_failed (Sent packets None) say comes (inr e) four = clash_at code 4 6 e four refl refl
@@ -233,9 +202,8 @@ module _ {S : Type 0} (words : List (List ℕ)) (seen : Seen S) (code : ℕ) (d 
 
   -- where nothing stands in the way and no count rose: status 0, or 5
   pub runs_whole_told : (answer : Answer) → WordsSay words answer → Comes words seen answer → (before now : Option (List ℕ)) (faults_before faults : ℕ)
-      → Tells before now faults_before faults answer code → (plan : Plan) (lists : List (List (List ℕ))) → Goes words plan
-      → AreGiven plan seen.gives seen.given seen.old lists → NoneUnbuilt plan seen.gives seen.given seen.old → NoneRose plan seen.faults seen.old seen.now
+      → Tells before now faults_before faults answer code → (plan : Plan) → HasPlan words plan → NoneRose plan seen.faults seen.old seen.now
       → (Rose seen.sink_faults_before seen.sink_faults → ⊥) → (Rose faults_before faults → ⊥) → (code ≡ 0) ⊎ (code ≡ 5)
-  runs_whole_told answer say comes before now faults_before faults (inl whole) plan lists goes given built quiet sink_quiet print_quiet =
-      runs_whole words seen code d answer say comes whole.code_is plan lists goes given built quiet sink_quiet
-  runs_whole_told answer say comes before now faults_before faults (inr front) plan lists goes given built quiet sink_quiet print_quiet = absurd (print_quiet front.rises.rose)
+  runs_whole_told answer say comes before now faults_before faults (inl whole) plan has quiet sink_quiet print_quiet =
+      runs_whole words seen code d answer say comes whole.code_is plan has quiet sink_quiet
+  runs_whole_told answer say comes before now faults_before faults (inr front) plan has quiet sink_quiet print_quiet = absurd (print_quiet front.rises.rose)

@@ -11,9 +11,9 @@ use Rattle.corr_model.specs.declared.verdict.Verdict.{Verdict}
 use Rattle.corr_model.specs.declared.verdict.Verdict.TheVariants.{Stop, Foreign, BeforeStart, OffGrid, Used}
 use Rattle.corr_model.specs.Plans.{sample_bytes}
 use Rattle.corr_model.specs.Assembly.{WholeHeap}
-use Rattle.corr_model.specs.Tables.{Sight, sight, preset}
+use Rattle.corr_model.specs.Tables.{Sight}
 use Rattle.std.specs.Borrow.{Bor}
-use Rattle.corr_model.specs.Streams.{Judged, above_top, cell_in, reach, raises, is_used_at, verdict_at, heap_verdict, stops, group_of, samples_of, grid}
+use Rattle.corr_model.specs.Streams.{Judged, above_top, cell_in, reach, raises, is_used_at, verdict_at, heap_verdict, judged_as, stops, samples_of, grid}
 use Rattle.corr_model.proofs.Pushes.{above_top_push, cell_in_push, cell_in_stays}
 use Rattle.corr_cli.specs.declared.kept.Kept.{Kept}
 use Rattle.corr_cli.specs.declared.judge.GridPlace.{GridPlace}
@@ -21,7 +21,7 @@ use Rattle.std.proofs.Math.Nat.{div-add-mod'}
 use Rattle.corr_cli.specs.Cells.{cell_of, Puts}
 use Rattle.corr_cli.specs.Grid.{IsAt, IsOff, OnUsed, uses}
 use Rattle.corr_cli.specs.Sums.{HasWidth}
-use Rattle.corr_cli.specs.Keeping.{Agrees, IsPlacedAs, judged_of}
+use Rattle.corr_cli.specs.Keeping.{Agrees, IsPlacedAs}
 
 -- a verdict that is not on the grid uses nothing
 quiet_unused : (v : Verdict) → raises v ≡ false → (n t : ℕ) → is_used_at n t v ≡ false
@@ -236,33 +236,54 @@ kept_there o cell b is found = is ∙ (sym (some_mapped (λ (x : Bor (List ℕ))
 
 -- the verdicts of heaps that are not on the grid
 module _ (plan : Plan) (antenna : ℕ) (js : List Judged) (h : WholeHeap) where
-  pub verdict_stop : stops h ≡ true → raises (judged_of plan antenna js h).verdict ≡ false
-  verdict_stop is = ap (λ b. raises (cond b Stop (heap_verdict plan antenna js (sight plan (preset plan) (group_of h))))) is
+  verdict_stop : (seen : Option Sight) → stops h ≡ true → raises (judged_as plan antenna js h seen).verdict ≡ false
+  verdict_stop seen is = ap (λ b. raises (cond b Stop (heap_verdict plan antenna js seen))) is
 
-  verdict_goes_on : stops h ≡ false → (judged_of plan antenna js h).verdict ≡ heap_verdict plan antenna js (sight plan (preset plan) (group_of h))
-  verdict_goes_on is = ap (λ b. cond b Stop (heap_verdict plan antenna js (sight plan (preset plan) (group_of h)))) is
+  verdict_goes_on : (seen : Option Sight) → stops h ≡ false → (judged_as plan antenna js h seen).verdict ≡ heap_verdict plan antenna js seen
+  verdict_goes_on seen is = ap (λ b. cond b Stop (heap_verdict plan antenna js seen)) is
 
-  pub verdict_unseen : stops h ≡ false → sight plan (preset plan) (group_of h) ≡ None → raises (judged_of plan antenna js h).verdict ≡ false
-  verdict_unseen is unseen = ap raises (verdict_goes_on is ∙ ap (heap_verdict plan antenna js) unseen)
+  verdict_unseen : stops h ≡ false → raises (judged_as plan antenna js h None).verdict ≡ false
+  verdict_unseen is = ap raises (verdict_goes_on None is)
 
-  module _ (s : Sight) (is : stops h ≡ false) (seen : sight plan (preset plan) (group_of h) ≡ Some s) where
-    verdict_seen : (judged_of plan antenna js h).verdict ≡ heap_verdict plan antenna js (Some s)
-    verdict_seen = verdict_goes_on is ∙ ap (heap_verdict plan antenna js) seen
+  module _ (s : Sight) (is : stops h ≡ false) where
+    verdict_foreign : s.antenna ≢ antenna → raises (judged_as plan antenna js h (Some s)).verdict ≡ false
+    verdict_foreign other = ap raises (verdict_goes_on (Some s) is) ∙ foreign plan antenna js s other
 
-    pub verdict_foreign : s.antenna ≢ antenna → raises (judged_of plan antenna js h).verdict ≡ false
-    verdict_foreign other = ap raises verdict_seen ∙ foreign plan antenna js s other
+    verdict_before : s.antenna ≡ antenna → s.timestamp < plan.start → raises (judged_as plan antenna js h (Some s)).verdict ≡ false
+    verdict_before own early = ap raises (verdict_goes_on (Some s) is) ∙ before plan antenna js s own early
 
-    pub verdict_before : s.antenna ≡ antenna → s.timestamp < plan.start → raises (judged_of plan antenna js h).verdict ≡ false
-    verdict_before own early = ap raises verdict_seen ∙ before plan antenna js s own early
+    verdict_off : s.antenna ≡ antenna → IsOff plan s.timestamp → raises (judged_as plan antenna js h (Some s)).verdict ≡ false
+    verdict_off own off = ap raises (verdict_goes_on (Some s) is) ∙ off_grid plan antenna js s own off
 
-    pub verdict_off : s.antenna ≡ antenna → IsOff plan s.timestamp → raises (judged_of plan antenna js h).verdict ≡ false
-    verdict_off own off = ap raises verdict_seen ∙ off_grid plan antenna js s own off
-
-    pub placed_at : (at : GridPlace) → s.antenna ≡ antenna → IsAt plan s.timestamp at → IsPlacedAs plan at s.samples js (judged_of plan antenna js h)
+    placed_at : (at : GridPlace) → s.antenna ≡ antenna → IsAt plan s.timestamp at → IsPlacedAs plan at s.samples js (judged_as plan antenna js h (Some s))
     placed_at at own is_at = record {
       says = s;
-      seen = seen;
+      seen = refl;
       same_samples = refl;
       place = is_at;
-      verdict = verdict_seen ∙ on_place plan antenna js s at own is_at;
+      verdict = verdict_goes_on (Some s) is ∙ on_place plan antenna js s at own is_at;
     }
+
+-- what is kept after a heap that is not on the grid, whatever heaps came before it
+module _ (plan : Plan) (antenna : ℕ) (kept : Kept) (js : List Judged) (h : WholeHeap) (stop : Bool) (seen : Option Sight) (is : stop ≡ stops h) (a : Agrees plan kept js) where
+  pub keeps_stop : stop ≡ true → Agrees plan kept (js ++ judged_as plan antenna js h seen ∷ [])
+  keeps_stop does = keeps_quiet plan kept js (judged_as plan antenna js h seen) a (verdict_stop plan antenna js h seen (sym is ∙ does))
+
+  judged_so : (o : Option Sight) → seen ≡ o → raises (judged_as plan antenna js h o).verdict ≡ false → Agrees plan kept (js ++ judged_as plan antenna js h seen ∷ [])
+  judged_so o same quiet = keeps_quiet plan kept js (judged_as plan antenna js h seen) a (ap (λ k. raises (judged_as plan antenna js h k).verdict) same ∙ quiet)
+
+  pub keeps_unseen : stop ≡ false → seen ≡ None → Agrees plan kept (js ++ judged_as plan antenna js h seen ∷ [])
+  keeps_unseen goes_on none = judged_so None none (verdict_unseen plan antenna js h (sym is ∙ goes_on))
+
+  module _ (s : Sight) (goes_on : stop ≡ false) (sees : seen ≡ Some s) where
+    pub keeps_foreign : s.antenna ≢ antenna → Agrees plan kept (js ++ judged_as plan antenna js h seen ∷ [])
+    keeps_foreign other = judged_so (Some s) sees (verdict_foreign plan antenna js h s (sym is ∙ goes_on) other)
+
+    pub keeps_before : s.antenna ≡ antenna → s.timestamp < plan.start → Agrees plan kept (js ++ judged_as plan antenna js h seen ∷ [])
+    keeps_before own early = judged_so (Some s) sees (verdict_before plan antenna js h s (sym is ∙ goes_on) own early)
+
+    pub keeps_off : s.antenna ≡ antenna → IsOff plan s.timestamp → Agrees plan kept (js ++ judged_as plan antenna js h seen ∷ [])
+    keeps_off own off = judged_so (Some s) sees (verdict_off plan antenna js h s (sym is ∙ goes_on) own off)
+
+    pub is_placed : (at : GridPlace) → s.antenna ≡ antenna → IsAt plan s.timestamp at → IsPlacedAs plan at s.samples js (judged_as plan antenna js h seen)
+    is_placed at own is_at = subst (λ o. IsPlacedAs plan at s.samples js (judged_as plan antenna js h o)) (sym sees) (placed_at plan antenna js h s (sym is ∙ goes_on) at own is_at)

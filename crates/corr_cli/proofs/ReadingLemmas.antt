@@ -3,31 +3,22 @@ use Rattle.std.proofs.Common.{◌≡◌, ◌≢◌, ◌<◌, ◌≤◌, ◌+◌,
 use Rattle.std.specs.Prelude.{is_some, is_none, All}
 use Rattle.std.specs.Result.{IsErr}
 use Rattle.std.proofs.Math.ListN.{length-set}
-use Rattle.std.proofs.lemmas.List.{get_or-set_same, get_or-set_other, get_or_append_left, get_or_push, take_more, take-append-drop, length-take-le, length_push}
+use Rattle.std.proofs.lemmas.List.{get_or-set_same, get_or-set_other, get_or_append_left, get_or_push, take_all, take_more, take-append-drop, length-take-le, length_push}
 use Rattle.std.proofs.lemmas.List.Elements.{All-push}
 use Rattle.std.proofs.lemmas.Option.{slice_get_within, get_or_from_slice_get}
-use Rattle.std.proofs.lemmas.Bool.{or_right}
 use Rattle.corr_model.specs.declared.plan.Plan.{Plan}
-use Rattle.corr_model.specs.Lists.{last_one}
 use Rattle.corr_model.specs.Plans.{sample_bytes}
 use Rattle.corr_model.specs.Streams.{Judged, taken, cell_in, heaps, ending}
-use Rattle.corr_model.specs.Built.{has_unbuilt, is_unbuilt_after}
-use Rattle.corr_model.proofs.BuiltLaws.{unbuilt_stays}
-use Rattle.corr_model.proofs.BuiltStreams.{next_unbuilt, unbuilt_past}
 use Rattle.corr_model.proofs.StreamLawsTaken.{same_after_end, heaps_ended, taken_past}
-use Rattle.corr_site.specs.declared.answers.Next.TheVariants.{Packet}
+use Rattle.corr_site.specs.declared.answers.Next.TheVariants.{Packet, End, Failed}
 use Rattle.corr_site.specs.declared.answers.NoMemory.{NoMemory}
 use Rattle.corr_site.specs.declared.place.Place.{Place}
-use Rattle.corr_site.specs.Outside.{Rises, GivesString, NextGives}
+use Rattle.corr_site.specs.Outside.{Rises, GivesString, GaveAll, NextGives}
 use Rattle.corr_cli.specs.declared.stream.Stream.{Stream}
-use Rattle.corr_cli.specs.declared.stream.Step.{Step}
-use Rattle.corr_cli.specs.declared.stream.Step.TheVariants as step
-use Rattle.corr_cli.specs.declared.reading.Streamed.{Streamed}
-use Rattle.corr_cli.specs.declared.reading.Streamed.TheVariants as streamed
 use Rattle.corr_cli.specs.declared.reading.Gathered.{Gathered}
 use Rattle.corr_cli.specs.Sums.{HasWidth}
-use Rattle.corr_cli.specs.Streaming.{StandsFor, Takes, IsSameStream}
-use Rattle.corr_cli.specs.Sourcing.{AreBegun, KeepsEach, KeepsBelonging, AreSameFrom, ReadsCells, ReadsTold, AreWide, StreamHasCause, GathersTold, GathersStreams, GatherHasCause, ReadsEach, GivesUnbuilt, NoneFell, IsLeastRise, HasLeastRise, first_of}
+use Rattle.corr_cli.specs.Streaming.{StandsFor, IsSameStream}
+use Rattle.corr_cli.specs.Sourcing.{AreBegun, KeepsEach, KeepsBelonging, AreSameFrom, ReadsCells, ReadsTold, RisesIf, GatherHasCause, ReadsEach, NoneFell, IsLeastRise, HasLeastRise, first_of}
 use Rattle.corr_cli.proofs.BeginLemmas.{each_set, read_at, keeps_set, belonging_set, same_from_set, begun_set, at_old}
 
 -- of these strings the first were given, and they are the list
@@ -74,10 +65,10 @@ told_given gives same strings given now len buf bytes e told next front =
     subst (GivesString strings given now) (sym front) (subst (λ g. NextGives g given now buf (Packet len)) (e ∙ told) next)
 
 -- a stream that took the string that was given
-pub reads_on : (plan : Plan) (antenna : ℕ) (gives same : Option (List (List ℕ))) (before now later len : ℕ) (buf bytes : List ℕ) (s new : Stream) (o : Step) → HasRead plan antenna gives before now s
-    → same ≡ gives → NextGives same now later buf (Packet len) → bytes ≡ take len buf → o ≡ step.Built → Takes {E = NoMemory} s new bytes (Ok o) → IsSameStream s new → HasRead plan antenna gives before later new
-reads_on plan antenna gives same before now later len buf bytes s new o h e next front built takes stays =
-    let on : (l : List (List ℕ)) → StandsFor s l → StandsFor new (l ++ bytes ∷ []) = subst (λ p. Takes {E = NoMemory} s new bytes (Ok p)) built takes in
+pub reads_on : (plan : Plan) (antenna : ℕ) (gives same : Option (List (List ℕ))) (before now later len : ℕ) (buf bytes : List ℕ) (s new : Stream) → HasRead plan antenna gives before now s
+    → same ≡ gives → NextGives same now later buf (Packet len) → bytes ≡ take len buf → ((l : List (List ℕ)) → StandsFor s l → StandsFor new (l ++ bytes ∷ [])) → IsSameStream s new
+    → HasRead plan antenna gives before later new
+reads_on plan antenna gives same before now later len buf bytes s new h e next front on stays =
     record {
       same_plan = stays.plan ∙ h.same_plan;
       same_antenna = stays.antenna ∙ h.same_antenna;
@@ -85,24 +76,6 @@ reads_on plan antenna gives same before now later len buf bytes s new o h e next
       stands = on h.list h.stands;
       told = λ strings told first. given_more strings h.list now later bytes (h.told strings told first) (told_given gives same strings now later len buf bytes e told next front);
     }
-
--- strings of which the next one is unbuilt after an open list
-unbuilt_next : (plan : Plan) (strings l : List (List ℕ)) (given now : ℕ) (bytes : List ℕ) → ending plan l ≡ None → HasGiven strings l given → GivesString strings given now bytes
-    → is_unbuilt_after plan (last_one l) bytes ≡ true → has_unbuilt plan strings ≡ true
-unbuilt_next plan strings l given now bytes still h g unbuilt =
-    let more = given_more strings l given now bytes h g in
-    let here : has_unbuilt plan (l ++ bytes ∷ []) ≡ true = next_unbuilt plan l bytes still ∙ or_right (has_unbuilt plan l) (is_unbuilt_after plan (last_one l) bytes) unbuilt in
-    let parts : (l ++ bytes ∷ []) ++ drop now strings ≡ strings = ap (λ k. k ++ drop now strings) more.front ∙ take-append-drop now strings in
-    ap (has_unbuilt plan) (sym parts) ∙ unbuilt_stays plan (l ++ bytes ∷ []) (drop now strings) here
-
--- a stream that did not take the string that was given
-pub reads_unbuilt : (plan : Plan) (antenna : ℕ) (gives same : Option (List (List ℕ))) (before now later len : ℕ) (buf bytes : List ℕ) (s new : Stream) (o : Step) → HasRead plan antenna gives before now s
-    → s.ending ≡ None → same ≡ gives → NextGives same now later buf (Packet len) → bytes ≡ take len buf → o ≡ step.Unbuilt → Takes {E = NoMemory} s new bytes (Ok o)
-    → (strings : List (List ℕ)) → gives ≡ Some strings → before ≡ 0 → has_unbuilt plan strings ≡ true
-reads_unbuilt plan antenna gives same before now later len buf bytes s new o h still e next front unbuilt takes strings told first =
-    let on : (l : List (List ℕ)) → StandsFor s l → is_unbuilt_after s.plan (last_one l) bytes ≡ true = subst (λ p. Takes {E = NoMemory} s new bytes (Ok p)) unbuilt takes in
-    ap (λ p. has_unbuilt p strings) (sym h.same_plan)
-    ∙ unbuilt_next s.plan strings h.list now later bytes (sym h.stands.ended ∙ still) (h.told strings told first) (told_given gives same strings now later len buf bytes e told next front) (on h.list h.stands)
 
 -- a stream that ended by itself read what the strings define
 ended_cells : (s : Stream) (strings l : List (List ℕ)) (given : ℕ) → StandsFor s l → is_some s.ending ≡ true → HasGiven strings l given → ReadsCells s.plan s.antenna strings given s.kept.cells
@@ -113,9 +86,8 @@ ended_cells s strings l given stands ended h =
     let same_heaps : heaps s.plan s.antenna strings ≡ heaps s.plan s.antenna l =
     ap (heaps s.plan s.antenna) parts ∙ same_after_end s.plan (heaps s.plan s.antenna) (heaps_ended s.plan s.antenna) l rest end in
     record {
-      built = ap (has_unbuilt s.plan) parts ∙ (unbuilt_past s.plan l rest end ∙ stands.built);
       count = sym (ap length (ap (taken s.plan) parts ∙ (taken_past s.plan l rest end ∙ (stands.all ∙ h.front))) ∙ length-take-le given strings h.within);
-      each = λ n t low. stands.kept.cells n t low ∙ ap (λ (js : List Judged). cell_in js n t) (sym same_heaps);
+      each = λ n t low. stands.holds.judged.cells n t low ∙ ap (λ (js : List Judged). cell_in js n t) (sym same_heaps);
     }
 
 closed : {A : Type 0} (o : Option A) (b : Bool) → b ≡ is_none o → b ≡ false → is_some o ≡ true
@@ -133,6 +105,33 @@ reads_ended plan antenna gives before now s cells is_open h is shut same strings
     let read = ended_cells s strings h.list now h.stands (closed s.ending is_open is shut) (h.told strings told first) in
     subst (ReadsCells plan antenna strings now) (sym same)
     (subst (λ p. ReadsCells p antenna strings now s.kept.cells) h.same_plan (subst (λ a. ReadsCells s.plan a strings now s.kept.cells) h.same_antenna read))
+
+pub at_end : (same : Option (List (List ℕ))) (now later : ℕ) (buf : List ℕ) → NextGives same now later buf End → (strings : List (List ℕ)) → same ≡ Some strings → GaveAll strings now later
+at_end None now later buf h strings e = absurd cc
+at_end (Some given) now later buf h strings e = let is : given ≡ strings = cc in subst (λ k. GaveAll k now later) is h
+
+pub at_failure : (same : Option (List (List ℕ))) (now later : ℕ) (buf : List ℕ) → NextGives same now later buf Failed → (strings : List (List ℕ)) → same ≡ Some strings → GaveAll strings now later
+at_failure None now later buf h strings e = absurd cc
+at_failure (Some given) now later buf h strings e = let is : given ≡ strings = cc in subst (λ k. GaveAll k now later) is h
+
+-- a stream whose source gave all read what the strings define
+whole_cells : (s : Stream) (strings l : List (List ℕ)) (given later : ℕ) → StandsFor s l → HasGiven strings l given → GaveAll strings given later → ReadsCells s.plan s.antenna strings later s.kept.cells
+whole_cells s strings l given later stands h whole =
+    let all : length strings ≤ given = let e = whole.all in omega arith in
+    let same : l ≡ strings = h.front ∙ take_all given strings all in
+    record {
+      count = whole.kept ∙ whole.all ∙ sym (ap length (ap (taken s.plan) (sym same) ∙ stands.all ∙ same));
+      each = λ n t low. stands.holds.judged.cells n t low ∙ ap (λ k. cell_in (heaps s.plan s.antenna k) n t) same;
+    }
+
+-- the samples of a stream whose source gives no more
+pub reads_whole : (plan : Plan) (antenna : ℕ) (gives same : Option (List (List ℕ))) (before now later : ℕ) (s : Stream) (cells : List (ℕ × List ℕ)) → HasRead plan antenna gives before now s
+    → same ≡ gives → ((strings : List (List ℕ)) → same ≡ Some strings → GaveAll strings now later) → cells ≡ s.kept.cells
+    → (strings : List (List ℕ)) → gives ≡ Some strings → before ≡ 0 → ReadsCells plan antenna strings later cells
+reads_whole plan antenna gives same before now later s cells h e ends is strings told first =
+    let read = whole_cells s strings h.list now later h.stands (h.told strings told first) (ends strings (e ∙ told)) in
+    subst (ReadsCells plan antenna strings later) (sym is)
+    (subst (λ p. ReadsCells p antenna strings later s.kept.cells) h.same_plan (subst (λ a. ReadsCells s.plan a strings later s.kept.cells) h.same_antenna read))
 
 -- after the first i sources are read
 pub record HasGathered {S : Type 0} (gives : S → Option (List (List ℕ))) (given : S → ℕ) (begun : S → Bool) (at : S → Option (Option (ℕ × Place))) (belongs : S → ℕ → Type 0) (faults : S → ℕ)
@@ -190,15 +189,6 @@ module _ {S : Type 0} (old now : List S) (i : ℕ) (x y : S) (within : i < lengt
         subst (ReadsCells plan b strings (given (get_or now b d))) (sym (get_or_append_left streams (cells ∷ []) [] b inside)) (k.each b d strings less told none)) a;
   }
 
-  -- the source that was read gives an unbuilt string
-  pub gives_unbuilt : (plan : Plan) (gives : S → Option (List (List ℕ))) (given : S → ℕ) → i < plan.antennas → AreSameFrom i old now
-      → ((strings : List (List ℕ)) → gives x ≡ Some strings → given x ≡ 0 → has_unbuilt plan strings ≡ true) → GivesUnbuilt plan gives given old
-  gives_unbuilt plan gives given below same here = record {
-    antenna = i;
-    within = below;
-    unbuilt = λ d strings told none. here strings (sym (at_old old now i x y within is gives same d) ∙ told) (sym (at_old old now i x y within is given same d) ∙ none);
-  }
-
 all_kept : {S : Type 0} (faults : S → ℕ) (old now : List S) → KeepsEach faults old now → NoneFell faults old now
 all_kept faults old now k = record { each = λ a d. let e = k.each a d in omega arith }
 
@@ -208,15 +198,15 @@ none_fell faults count old now None h = all_kept faults old now h
 none_fell faults count old now (Some least) h = h.later
 
 -- a count that rose or not did not fall
-not_less : (before now : ℕ) (cells : List (ℕ × List ℕ)) (failed : Bool) → StreamHasCause {E = NoMemory} before now (Ok (streamed.Read cells failed)) → before ≤ now
-not_less before now cells true h = h.later
-not_less before now cells false h = omega arith
+not_less : (before now : ℕ) (failed : Bool) → RisesIf failed before now → before ≤ now
+not_less before now true h = h.later
+not_less before now false h = omega arith
 
-least_more : {S : Type 0} (faults : S → ℕ) (old now : List S) (i : ℕ) (x y : S) (cells : List (ℕ × List ℕ)) (fault : Option ℕ) (failed : Bool) → i < length now → x ≡ get_or now i x → AreSameFrom i old now
-    → StreamHasCause {E = NoMemory} (faults x) (faults y) (Ok (streamed.Read cells failed)) → HasLeastRise faults i old now fault → HasLeastRise faults (i + 1) old (set now i y) (first_of fault failed i)
-least_more faults old now i x y cells (Some least) failed within is same cause h = later_rise old now i x y within is faults least (not_less (faults x) (faults y) cells failed cause) h
-least_more faults old now i x y cells None true within is same cause h = first_rise old now i x y within is faults cause same h (all_kept faults old now h)
-least_more faults old now i x y cells None false within is same cause h = keeps_set old now i x y within is faults cause h
+least_more : {S : Type 0} (faults : S → ℕ) (old now : List S) (i : ℕ) (x y : S) (fault : Option ℕ) (failed : Bool) → i < length now → x ≡ get_or now i x → AreSameFrom i old now
+    → RisesIf failed (faults x) (faults y) → HasLeastRise faults i old now fault → HasLeastRise faults (i + 1) old (set now i y) (first_of fault failed i)
+least_more faults old now i x y (Some least) failed within is same cause h = later_rise old now i x y within is faults least (not_less (faults x) (faults y) failed cause) h
+least_more faults old now i x y None true within is same cause h = first_rise old now i x y within is faults cause same h (all_kept faults old now h)
+least_more faults old now i x y None false within is same cause h = keeps_set old now i x y within is faults cause h
 
 -- what no count fell says of an answer for want of memory
 no_memory : {S : Type 0} (faults : S → ℕ) (count : ℕ) (old now : List S) (r : Result Gathered NoMemory) → IsErr r → NoneFell faults old now → GatherHasCause faults count old now r
@@ -230,25 +220,14 @@ no_memory_to_read faults count old now i x y fault r within is h same err =
     no_memory faults count old (set now i y) r err (none_fell_set old now i x y within is faults (omega arith) (none_fell faults i old now fault h))
 
 -- memory was wanting after a source was read
-pub no_memory_to_push : {S : Type 0} (faults : S → ℕ) (count : ℕ) (old now : List S) (i : ℕ) (x y : S) (cells : List (ℕ × List ℕ)) (failed : Bool) (o : Streamed) (fault : Option ℕ) (r : Result Gathered NoMemory)
-    → i < length now → x ≡ get_or now i x → HasLeastRise faults i old now fault → o ≡ streamed.Read cells failed → StreamHasCause {E = NoMemory} (faults x) (faults y) (Ok o)
-    → IsErr r → GatherHasCause faults count old (set now i y) r
-no_memory_to_push faults count old now i x y cells failed o fault r within is h read cause err =
-    let rises : StreamHasCause {E = NoMemory} (faults x) (faults y) (Ok (streamed.Read cells failed)) = subst (λ p. StreamHasCause {E = NoMemory} (faults x) (faults y) (Ok p)) read cause in
-    no_memory faults count old (set now i y) r err (none_fell_set old now i x y within is faults (not_less (faults x) (faults y) cells failed rises) (none_fell faults i old now fault h))
+pub no_memory_to_push : {S : Type 0} (faults : S → ℕ) (count : ℕ) (old now : List S) (i : ℕ) (x y : S) (failed : Bool) (fault : Option ℕ) (r : Result Gathered NoMemory) → i < length now → x ≡ get_or now i x
+    → HasLeastRise faults i old now fault → RisesIf failed (faults x) (faults y) → IsErr r → GatherHasCause faults count old (set now i y) r
+no_memory_to_push faults count old now i x y failed fault r within is h rises err =
+    no_memory faults count old (set now i y) r err (none_fell_set old now i x y within is faults (not_less (faults x) (faults y) failed rises) (none_fell faults i old now fault h))
 
 -- fewer sources are as they were
 pub same_further : {S : Type 0} (m n : ℕ) (old now : List S) → m ≤ n → AreSameFrom m old now → AreSameFrom n old now
 same_further m n old now le k = record { each = λ a d past. k.each a d (omega arith) }
-
--- memory was wanting, and so nothing is said of the samples
-pub no_reads : {S : Type 0} (plan : Plan) (gives : S → Option (List (List ℕ))) (given : S → ℕ) (old now : List S) (r : Result Gathered NoMemory) → IsErr r → GathersTold plan gives given old now r
-no_reads plan gives given old now (Err e) is = tt
-no_reads plan gives given old now (Ok x) is = absurd cc
-
-pub no_streams : (plan : Plan) (r : Result Gathered NoMemory) → IsErr r → GathersStreams plan r
-no_streams plan (Err e) is = tt
-no_streams plan (Ok x) is = absurd cc
 
 -- what stays of the sources when one was read, whatever came of it
 pub record KeepsSources {S : Type 0} (gives : S → Option (List (List ℕ))) (begun : S → Bool) (at : S → Option (Option (ℕ × Place))) (belongs : S → ℕ → Type 0) (count : ℕ) (old now : List S) : Type 0 where
@@ -271,30 +250,15 @@ keeps_sources gives given begun at belongs faults plan old now i x y streams fau
   still_belong = belonging_set old now i x y within is belongs belong h.still_belong;
 }
 
--- a source gives what is unbuilt
-pub unbuilt_told : {S : Type 0} (plan : Plan) (gives : S → Option (List (List ℕ))) (given : S → ℕ) (old now : List S) (i : ℕ) (x y : S) (o : Streamed) → i < length now → x ≡ get_or now i x → i < plan.antennas
-    → AreSameFrom i old now → o ≡ streamed.Unbuilt → ReadsTold {E = NoMemory} plan i (gives x) (given x) (given y) (Ok o) → GivesUnbuilt plan gives given old
-unbuilt_told plan gives given old now i x y o within is below same unbuilt reads =
-    gives_unbuilt old now i x y within is plan gives given below same (subst (λ r. ReadsTold {E = NoMemory} plan i (gives x) (given x) (given y) (Ok r)) unbuilt reads)
-
-pub unbuilt_cause : {S : Type 0} (faults : S → ℕ) (old now : List S) (i : ℕ) (x y : S) (o : Streamed) (fault : Option ℕ) → i < length now → x ≡ get_or now i x → HasLeastRise faults i old now fault
-    → o ≡ streamed.Unbuilt → StreamHasCause {E = NoMemory} (faults x) (faults y) (Ok o) → NoneFell faults old (set now i y)
-unbuilt_cause faults old now i x y o fault within is h unbuilt cause =
-    let kept : faults y ≡ faults x = subst (λ p. StreamHasCause {E = NoMemory} (faults x) (faults y) (Ok p)) unbuilt cause in
-    none_fell_set old now i x y within is faults (omega arith) (none_fell faults i old now fault h)
-
 -- one more source was read
 pub gathers_on : {S : Type 0} (gives : S → Option (List (List ℕ))) (given : S → ℕ) (begun : S → Bool) (at : S → Option (Option (ℕ × Place))) (belongs : S → ℕ → Type 0) (faults : S → ℕ)
-    (plan : Plan) (old now : List S) (i : ℕ) (x y : S) (streams more : List (List (ℕ × List ℕ))) (cells : List (ℕ × List ℕ)) (failed : Bool) (o : Streamed) (fault next : Option ℕ)
+    (plan : Plan) (old now : List S) (i : ℕ) (x y : S) (streams more : List (List (ℕ × List ℕ))) (cells : List (ℕ × List ℕ)) (failed : Bool) (fault next : Option ℕ)
     → HasGathered gives given begun at belongs faults plan old now i streams fault → i < length now → x ≡ get_or now i x
     → begun y ≡ true → at y ≡ at x → gives y ≡ gives x → ((a : ℕ) → belongs x a → belongs y a)
-    → o ≡ streamed.Read cells failed → ReadsTold {E = NoMemory} plan i (gives x) (given x) (given y) (Ok o) → AreWide {E = NoMemory} plan (Ok o) → StreamHasCause {E = NoMemory} (faults x) (faults y) (Ok o)
+    → ReadsTold plan i (gives x) (given x) (given y) cells → HasWidth cells (sample_bytes plan) → RisesIf failed (faults x) (faults y)
     → next ≡ first_of fault failed i → more ≡ streams ++ cells ∷ []
     → HasGathered gives given begun at belongs faults plan old (set now i y) (i + 1) more next
-gathers_on {S} gives given begun at belongs faults plan old now i x y streams more cells failed o fault next h within is is_begun same_at same_gives belong read reads wide cause first pushed =
-    let told : (strings : List (List ℕ)) → gives x ≡ Some strings → given x ≡ 0 → ReadsCells plan i strings (given y) cells = subst (λ r. ReadsTold {E = NoMemory} plan i (gives x) (given x) (given y) (Ok r)) read reads in
-    let width : HasWidth cells (sample_bytes plan) = subst (λ r. AreWide {E = NoMemory} plan (Ok r)) read wide in
-    let rises : StreamHasCause {E = NoMemory} (faults x) (faults y) (Ok (streamed.Read cells failed)) = subst (λ r. StreamHasCause {E = NoMemory} (faults x) (faults y) (Ok r)) read cause in
+gathers_on {S} gives given begun at belongs faults plan old now i x y streams more cells failed fault next h within is is_begun same_at same_gives belong told width rises first pushed =
     let long : length (streams ++ cells ∷ []) ≡ i + 1 = let n = length_push streams cells in let m = h.one_each in omega arith in
     record {
       same_length = length-set now i y ∙ h.same_length;
@@ -306,5 +270,5 @@ gathers_on {S} gives given begun at belongs faults plan old now i x y streams mo
       one_each = ap length pushed ∙ long;
       wide = subst (All (λ s. HasWidth s (sample_bytes plan))) (sym pushed) (All-push (λ s. HasWidth s (sample_bytes plan)) streams cells h.wide width);
       reads = subst (ReadsEach plan gives given (i + 1) old (set now i y)) (sym pushed) (reads_more old now i x y within is plan gives given streams cells h.one_each h.later told h.reads);
-      cause = subst (HasLeastRise faults (i + 1) old (set now i y)) (sym first) (least_more faults old now i x y cells fault failed within is h.later rises h.cause);
+      cause = subst (HasLeastRise faults (i + 1) old (set now i y)) (sym first) (least_more faults old now i x y fault failed within is h.later rises h.cause);
     }

@@ -10,7 +10,7 @@ use Rattle.corr_model.specs.Outputs.{output}
 use Rattle.corr_cli.specs.Cells.{cell_of}
 use Rattle.corr_cli.specs.Sending.{AreStreams, columns_of, output_by}
 use Rattle.corr_cli.specs.Sourcing.{ReadsEach, KeepsEach, AreBegun}
-use Rattle.corr_cli.specs.Runs.{list_of, AreGiven, GaveTaken, NoneUnbuilt}
+use Rattle.corr_cli.specs.Runs.{list_of, AreGiven, GaveTaken}
 use Rattle.corr_cli.proofs.OutputByLists.{output_of_lists}
 use Rattle.corr_cli.proofs.StreamLemmas.{no_heaps}
 
@@ -56,9 +56,6 @@ module _ {S : Type 0} (plan : Plan) (gives : S → Option (List (List ℕ))) (gi
 
   pub gave_taken : GaveTaken plan gives given old now
   gave_taken = record { each = λ a d strings within told none. (read.each a d strings within told none).count }
-
-  pub none_unbuilt : NoneUnbuilt plan gives given old
-  none_unbuilt = record { each = λ a d strings within told none. (read.each a d strings within told none).built }
 
 -- the first sources stay begun
 pub still_begun : {S : Type 0} (begun : S → Bool) (count : ℕ) (old now : List S) → KeepsEach begun old now → AreBegun begun count old → AreBegun begun count now

@@ -1,6 +1,7 @@
 -- What a sink was sent, packet by packet.
-use Rattle.std.proofs.Common.{◌≡◌, ℕ, zero, suc, ◌+◌, ◌-◌, ◌<◌, ◌≤◌, Bool, true, Option, Some, None, Result, Ok, Err, List, [], ◌∷◌, ◌++◌, flat_map, refl, sym, ap, ◌∙◌, arith, append_assoc, append-nil}
+use Rattle.std.proofs.Common.{◌≡◌, ℕ, zero, suc, ◌+◌, ◌-◌, ◌<◌, ◌≤◌, Bool, true, Option, Some, None, Result, Ok, Err, List, [], ◌∷◌, ◌++◌, map, flat_map, refl, sym, ap, ◌∙◌, arith, append_assoc, append-nil}
 use Rattle.std.specs.Result.{IsErr}
+use Rattle.std.proofs.lemmas.List.{map-append}
 use Rattle.std.proofs.lemmas.List.Concat.{flat_map-append}
 use Rattle.corr_model.specs.declared.plan.Plan.{Plan}
 use Rattle.corr_model.specs.Lists.{numbers}
@@ -58,7 +59,7 @@ cut_at head stop piece n m =
     ∙ sym (append_assoc head front (back ++ stop))
 
 -- the head and one more piece
-one_more : {P : Type 0} (head : List P) (piece : ℕ → List P) (n : ℕ) → head ++ flat_map piece (numbers 0 (n + 1)) ≡ (head ++ flat_map piece (numbers 0 n)) ++ piece n
+pub one_more : {P : Type 0} (head : List P) (piece : ℕ → List P) (n : ℕ) → head ++ flat_map piece (numbers 0 (n + 1)) ≡ (head ++ flat_map piece (numbers 0 n)) ++ piece n
 one_more head piece n =
     let next : n + 1 ≡ suc n = omega arith in
     let here : 0 + n ≡ n = omega arith in
@@ -78,60 +79,86 @@ output_split plan columns n le =
     let whole : plan.accumulations ≡ n + (plan.accumulations - n) = omega arith in
     ap (λ k. head_packets plan ++ (flat_map (heap_packets_by plan columns) (numbers 0 k) ++ stop_packets plan)) whole ∙ cut_at (head_packets plan) (stop_packets plan) (heap_packets_by plan columns) n (plan.accumulations - n)
 
--- the output around the packet of an accumulation
-output_around : (plan : Plan) (columns : Columns) (n : ℕ) (packet : List ℕ) → n < plan.accumulations → packet ∷ [] ≡ heap_packets_by plan columns n
-    → output_by plan columns ≡ sent_by plan columns n ++ ((packet ∷ []) ++ left_by plan columns (n + 1))
-output_around plan columns n packet lt e =
+-- the output around the packets of an accumulation
+output_around : (plan : Plan) (columns : Columns) (n : ℕ) → n < plan.accumulations → output_by plan columns ≡ sent_by plan columns n ++ (heap_packets_by plan columns n ++ left_by plan columns (n + 1))
+output_around plan columns n lt =
     let one : plan.accumulations - n ≡ suc (plan.accumulations - (n + 1)) = omega arith in
     output_split plan columns n (omega arith)
     ∙ ap (λ l. sent_by plan columns n ++ l) (next_left (stop_packets plan) (heap_packets_by plan columns) n (plan.accumulations - (n + 1)) plan.accumulations one)
-    ∙ ap (λ l. sent_by plan columns n ++ (l ++ left_by plan columns (n + 1))) (sym e)
 
--- the first packet was sent, or a front of it
-pub head_sent : (plan : Plan) (columns : Columns) (packet : List ℕ) (before now : Option (List (List ℕ))) → packet ∷ [] ≡ head_packets plan → now ≡ appended before (packet ∷ []) → now ≡ appended before (sent_by plan columns 0)
-head_sent plan columns packet before now e sent = sent ∙ ap (appended before) (e ∙ sym (append-nil (head_packets plan)))
+-- the descriptor heap was sent, or a front of it
+pub head_sent : (plan : Plan) (columns : Columns) (before now : Option (List (List ℕ))) → now ≡ appended before (head_packets plan) → now ≡ appended before (sent_by plan columns 0)
+head_sent plan columns before now sent = sent ∙ ap (appended before) (sym (append-nil (head_packets plan)))
 
-pub head_failed : (plan : Plan) (columns : Columns) (packet : List ℕ) (before now : Option (List (List ℕ))) → packet ∷ [] ≡ head_packets plan → AppendsPackets before now (packet ∷ []) → AppendsPackets before now (output_by plan columns)
-head_failed plan columns packet before now e h =
+pub head_failed : (plan : Plan) (columns : Columns) (before now : Option (List (List ℕ))) → AppendsPackets before now (head_packets plan) → AppendsPackets before now (output_by plan columns)
+head_failed plan columns before now h =
     let rest = flat_map (heap_packets_by plan columns) (numbers 0 plan.accumulations) ++ stop_packets plan in
     record {
       front = h.front;
       rest = h.rest ++ rest;
-      whole = ap (λ l. l ++ rest) (sym e ∙ h.whole) ∙ append_assoc h.front h.rest rest;
+      whole = ap (λ l. l ++ rest) h.whole ∙ append_assoc h.front h.rest rest;
       appends = h.appends;
     }
 
--- one more accumulation was sent, or a front of its packet
-pub heap_sent : (plan : Plan) (columns : Columns) (n : ℕ) (packet : List ℕ) (before middle now : Option (List (List ℕ))) → packet ∷ [] ≡ heap_packets_by plan columns n
-    → middle ≡ appended before (sent_by plan columns n) → now ≡ appended middle (packet ∷ []) → now ≡ appended before (sent_by plan columns (n + 1))
-heap_sent plan columns n packet before middle now e first second =
-    appended_more before middle now (sent_by plan columns n) (packet ∷ []) first second
-    ∙ ap (λ l. appended before (sent_by plan columns n ++ l)) e
-    ∙ ap (appended before) (sym (one_more (head_packets plan) (heap_packets_by plan columns) n))
+-- one more accumulation was sent, or a front of its packets
+pub heap_sent : (plan : Plan) (columns : Columns) (n : ℕ) (before middle now : Option (List (List ℕ))) → middle ≡ appended before (sent_by plan columns n) → now ≡ appended middle (heap_packets_by plan columns n)
+    → now ≡ appended before (sent_by plan columns (n + 1))
+heap_sent plan columns n before middle now first second =
+    appended_more before middle now (sent_by plan columns n) (heap_packets_by plan columns n) first second ∙ ap (appended before) (sym (one_more (head_packets plan) (heap_packets_by plan columns) n))
 
-pub heap_failed : (plan : Plan) (columns : Columns) (n : ℕ) (packet : List ℕ) (before middle now : Option (List (List ℕ))) → n < plan.accumulations → packet ∷ [] ≡ heap_packets_by plan columns n
-    → middle ≡ appended before (sent_by plan columns n) → AppendsPackets middle now (packet ∷ []) → AppendsPackets before now (output_by plan columns)
-heap_failed plan columns n packet before middle now lt e first h =
-    front_more before middle now (sent_by plan columns n) (packet ∷ []) (left_by plan columns (n + 1)) (output_by plan columns) first h (output_around plan columns n packet lt e)
+pub heap_failed : (plan : Plan) (columns : Columns) (n : ℕ) (before middle now : Option (List (List ℕ))) → n < plan.accumulations → middle ≡ appended before (sent_by plan columns n) → AppendsPackets middle now (heap_packets_by plan columns n)
+    → AppendsPackets before now (output_by plan columns)
+heap_failed plan columns n before middle now lt first h =
+    front_more before middle now (sent_by plan columns n) (heap_packets_by plan columns n) (left_by plan columns (n + 1)) (output_by plan columns) first h (output_around plan columns n lt)
 
--- the output around the last packet
-output_end : (plan : Plan) (columns : Columns) (n : ℕ) (packet : List ℕ) → n ≡ plan.accumulations → packet ∷ [] ≡ stop_packets plan → output_by plan columns ≡ sent_by plan columns n ++ ((packet ∷ []) ++ [])
-output_end plan columns n packet at e =
+-- the output around its last packets
+pub output_end : (plan : Plan) (columns : Columns) (n : ℕ) → n ≡ plan.accumulations → output_by plan columns ≡ sent_by plan columns n ++ stop_packets plan
+output_end plan columns n at =
     ap (λ k. head_packets plan ++ (flat_map (heap_packets_by plan columns) (numbers 0 k) ++ stop_packets plan)) (sym at)
     ∙ sym (append_assoc (head_packets plan) (flat_map (heap_packets_by plan columns) (numbers 0 n)) (stop_packets plan))
-    ∙ ap (λ l. sent_by plan columns n ++ l) (sym e ∙ sym (append-nil (packet ∷ [])))
 
--- the last packet was sent, or a front of it
-pub stop_sent : (plan : Plan) (columns : Columns) (n : ℕ) (packet : List ℕ) (before middle now : Option (List (List ℕ))) → n ≡ plan.accumulations → packet ∷ [] ≡ stop_packets plan
-    → middle ≡ appended before (sent_by plan columns n) → now ≡ appended middle (packet ∷ []) → now ≡ appended before (output_by plan columns)
-stop_sent plan columns n packet before middle now at e first second =
-    appended_more before middle now (sent_by plan columns n) (packet ∷ []) first second ∙ ap (λ l. appended before (sent_by plan columns n ++ l)) (sym (append-nil (packet ∷ [])))
-    ∙ ap (appended before) (sym (output_end plan columns n packet at e))
+-- the stop heap was sent, or a front of it
+pub stop_sent : (plan : Plan) (columns : Columns) (n : ℕ) (before middle now : Option (List (List ℕ))) → n ≡ plan.accumulations → middle ≡ appended before (sent_by plan columns n) → now ≡ appended middle (stop_packets plan)
+    → now ≡ appended before (output_by plan columns)
+stop_sent plan columns n before middle now at first second =
+    appended_more before middle now (sent_by plan columns n) (stop_packets plan) first second ∙ ap (appended before) (sym (output_end plan columns n at))
 
-pub stop_failed : (plan : Plan) (columns : Columns) (n : ℕ) (packet : List ℕ) (before middle now : Option (List (List ℕ))) → n ≡ plan.accumulations → packet ∷ [] ≡ stop_packets plan
-    → middle ≡ appended before (sent_by plan columns n) → AppendsPackets middle now (packet ∷ []) → AppendsPackets before now (output_by plan columns)
-stop_failed plan columns n packet before middle now at e first h =
-    front_more before middle now (sent_by plan columns n) (packet ∷ []) [] (output_by plan columns) first h (output_end plan columns n packet at e)
+pub stop_failed : (plan : Plan) (columns : Columns) (n : ℕ) (before middle now : Option (List (List ℕ))) → n ≡ plan.accumulations → middle ≡ appended before (sent_by plan columns n) → AppendsPackets middle now (stop_packets plan)
+    → AppendsPackets before now (output_by plan columns)
+stop_failed plan columns n before middle now at first h =
+    front_more before middle now (sent_by plan columns n) (stop_packets plan) [] (output_by plan columns) first h
+    (output_end plan columns n at ∙ ap (λ l. sent_by plan columns n ++ l) (sym (append-nil (stop_packets plan))))
+
+-- one more packet of a heap
+piece_more : {P : Type 0} (piece : ℕ → P) (k : ℕ) → map piece (numbers 0 (k + 1)) ≡ map piece (numbers 0 k) ++ piece k ∷ []
+piece_more piece k =
+    let next : k + 1 ≡ suc k = omega arith in
+    let here : 0 + k ≡ k = omega arith in
+    ap (λ m. map piece (numbers 0 m)) next ∙ ap (map piece) (numbers_push 0 k ∙ ap (λ m. numbers 0 k ++ m ∷ []) here) ∙ map-append piece (numbers 0 k) (k ∷ [])
+
+-- the packets of a heap around one of them
+pieces_around : {P : Type 0} (piece : ℕ → P) (k count : ℕ) → k < count → map piece (numbers 0 count) ≡ map piece (numbers 0 k) ++ ((piece k ∷ []) ++ map piece (numbers (k + 1) (count - (k + 1))))
+pieces_around piece k count lt =
+    let whole : count ≡ k + suc (count - (k + 1)) = omega arith in
+    let here : 0 + k ≡ k = omega arith in
+    ap (λ m. map piece (numbers 0 m)) whole
+    ∙ ap (map piece) (numbers_split 0 k (suc (count - (k + 1))) ∙ ap (λ m. numbers 0 k ++ numbers m (suc (count - (k + 1)))) here)
+    ∙ map-append piece (numbers 0 k) (numbers k (suc (count - (k + 1))))
+
+-- one more packet of a heap was sent, or a front of it
+pub piece_sent : (piece : ℕ → List ℕ) (k : ℕ) (before middle now : Option (List (List ℕ))) → middle ≡ appended before (map piece (numbers 0 k)) → now ≡ appended middle (piece k ∷ []) → now ≡ appended before (map piece (numbers 0 (k + 1)))
+piece_sent piece k before middle now first second =
+    appended_more before middle now (map piece (numbers 0 k)) (piece k ∷ []) first second ∙ ap (appended before) (sym (piece_more piece k))
+
+pub piece_failed : (piece : ℕ → List ℕ) (k count : ℕ) (before middle now : Option (List (List ℕ))) → k < count → middle ≡ appended before (map piece (numbers 0 k)) → AppendsPackets middle now (piece k ∷ [])
+    → AppendsPackets before now (map piece (numbers 0 count))
+piece_failed piece k count before middle now lt first h =
+    front_more before middle now (map piece (numbers 0 k)) (piece k ∷ []) (map piece (numbers (k + 1) (count - (k + 1)))) (map piece (numbers 0 count)) first h (pieces_around piece k count lt)
+
+-- nothing was sent yet
+pub none_sent : (before : Option (List (List ℕ))) → before ≡ appended before []
+none_sent None = refl
+none_sent (Some before) = ap Some (sym (append-nil before))
 
 -- a begun sink was sent these packets, and nothing else changed
 pub record SentSo {P : Type 0} (before now : Option (List (List ℕ))) (place_before place : Option (Option P)) (faults_before faults : ℕ) (begun : Bool) (packets : List (List ℕ)) : Type 0 where

@@ -1,12 +1,11 @@
 -- The codes of answers, by what the words are.
-use Rattle.std.proofs.Common.{◌≡◌, ◌≤◌, ℕ, List, Option, Some, None, refl, sym, ◌∙◌, ap, inl, inr}
+use Rattle.std.proofs.Common.{◌≡◌, ℕ, List, Option, Some, None, refl, sym, ◌∙◌, ap, inl, inr}
 use Rattle.std.specs.Prelude.{◌⊎◌, ◌↔◌, ◌==◌, true, option_map, IsNone}
 use Rattle.corr_model.specs.declared.plan.Plan.{Plan}
-use Rattle.corr_model.specs.Plans.{visibility_bytes}
 use Rattle.corr_cli.specs.declared.settings.SetRefusal.{SetRefusal}
 use Rattle.corr_cli.specs.declared.words.Numbers.{Numbers}
 use Rattle.corr_cli.specs.declared.answer.Answer.{Answer}
-use Rattle.corr_cli.specs.declared.answer.Answer.TheVariants.{Usage, Settings, UnbuiltOutput, UnbuiltInput, NotBegun, Sent, SinkFault, NoMemory}
+use Rattle.corr_cli.specs.declared.answer.Answer.TheVariants.{Usage, Settings, NotBegun, Sent, SinkFault, NoMemory}
 use Rattle.corr_cli.specs.Words.{PlainWords, numbers_of, form, HasNumbers}
 use Rattle.corr_cli.specs.Settings.{settings_refusal, plan_of}
 use Rattle.corr_cli.specs.Texts.{Tells, code_of, unprinted_code}
@@ -66,12 +65,10 @@ some_form words said e h = absurd cc
 one_of : (words : List (List ℕ)) (answer : Answer) (code : ℕ) → WordsSay words answer → (code ≡ code_of answer) ⊎ (code ≡ unprinted_code answer) → form words ≡ None → code ≡ 1
 one_of words Usage code say told none = both_codes code 1 told
 one_of words (Settings refusal) code say told none = some_form words say.said say.is_form none
-one_of words UnbuiltOutput code say told none = some_form words say.has_plan.said say.has_plan.is_form none
-one_of words UnbuiltInput code say told none = some_form words say.goes.has_plan.said say.goes.has_plan.is_form none
-one_of words (NotBegun a) code say told none = some_form words say.goes.has_plan.said say.goes.has_plan.is_form none
-one_of words (Sent k fault) code say told none = some_form words say.goes.has_plan.said say.goes.has_plan.is_form none
-one_of words SinkFault code say told none = some_form words say.goes.has_plan.said say.goes.has_plan.is_form none
-one_of words NoMemory code say told none = some_form words say.goes.has_plan.said say.goes.has_plan.is_form none
+one_of words (NotBegun a) code say told none = some_form words say.has_plan.said say.has_plan.is_form none
+one_of words (Sent k fault) code say told none = some_form words say.has_plan.said say.has_plan.is_form none
+one_of words SinkFault code say told none = some_form words say.has_plan.said say.has_plan.is_form none
+one_of words NoMemory code say told none = some_form words say.has_plan.said say.has_plan.is_form none
 
 pub refused_plan : (words : List (List ℕ)) (refused : AreRefused words) (plan : Plan) {P : Type 0} → HasPlan words plan → P
 refused_plan words refused plan has =
@@ -84,12 +81,10 @@ refused_plan words refused plan has =
 two_of : (words : List (List ℕ)) (answer : Answer) (code : ℕ) → WordsSay words answer → (code ≡ code_of answer) ⊎ (code ≡ unprinted_code answer) → AreRefused words → code ≡ 2
 two_of words Usage code say told refused = some_form words refused.refused.said refused.refused.is_form say
 two_of words (Settings refusal) code say told refused = both_codes code 2 told
-two_of words UnbuiltOutput code say told refused = refused_plan words refused say.plan say.has_plan
-two_of words UnbuiltInput code say told refused = refused_plan words refused say.plan say.goes.has_plan
-two_of words (NotBegun a) code say told refused = refused_plan words refused say.plan say.goes.has_plan
-two_of words (Sent k fault) code say told refused = refused_plan words refused say.plan say.goes.has_plan
-two_of words SinkFault code say told refused = refused_plan words refused say.plan say.goes.has_plan
-two_of words NoMemory code say told refused = refused_plan words refused say.plan say.goes.has_plan
+two_of words (NotBegun a) code say told refused = refused_plan words refused say.plan say.has_plan
+two_of words (Sent k fault) code say told refused = refused_plan words refused say.plan say.has_plan
+two_of words SinkFault code say told refused = refused_plan words refused say.plan say.has_plan
+two_of words NoMemory code say told refused = refused_plan words refused say.plan say.has_plan
 
 module _ (words : List (List ℕ)) (answer : Answer) (code : ℕ) (say : WordsSay words answer) (told : (code ≡ code_of answer) ⊎ (code ≡ unprinted_code answer)) where
   -- code 1 exactly where the words have no form
@@ -104,7 +99,6 @@ module _ (words : List (List ℕ)) (answer : Answer) (code : ℕ) (say : WordsSa
 pub words_of_run : (words : List (List ℕ)) (answer : Answer) → IsOfRun answer → GoesOn words → WordsSay words answer
 words_of_run words Usage h goes = absurd h
 words_of_run words (Settings refusal) h goes = absurd h
-words_of_run words UnbuiltOutput h goes = absurd h
 words_of_run words other h goes = goes
 
 -- the words that the numbers were read from, and their plan
@@ -117,9 +111,9 @@ plan_found words numbers plan has accepted is = found (form words) refl has acce
         let same : numbers_of said ≡ numbers = cc in
         record { said = said; is_form = e; accepted = ap settings_refusal same ∙ accepted; is_plan = is ∙ ap plan_of (sym same) }
 
--- a plan that goes
-pub goes_on : (words : List (List ℕ)) (numbers : Numbers) (plan : Plan) → HasNumbers words numbers → settings_refusal numbers ≡ None → plan ≡ plan_of numbers → visibility_bytes plan ≤ 1024 → GoesOn words
-goes_on words numbers plan has accepted is small = record { plan = plan; goes = record { has_plan = plan_found words numbers plan has accepted is; one_packet = small } }
+-- the words of a plan
+pub goes_on : (words : List (List ℕ)) (numbers : Numbers) (plan : Plan) → HasNumbers words numbers → settings_refusal numbers ≡ None → plan ≡ plan_of numbers → GoesOn words
+goes_on words numbers plan has accepted is = record { plan = plan; has_plan = plan_found words numbers plan has accepted is }
 
 pub refusal_found : (words : List (List ℕ)) (numbers : Numbers) (refusal : SetRefusal) → HasNumbers words numbers → settings_refusal numbers ≡ Some refusal → IsRefused words refusal
 refusal_found words numbers refusal has refused = found (form words) refl has refused

@@ -34,6 +34,7 @@ pub record IsFirst (plan : Plan) (at : GridPlace) (is_used : Bool) (n t : ℕ) :
   pub first : is_used ≡ false
   pub within : n < plan.accumulations
 
+-- where the verdict is that the heap is used, it is used at its own place, where none was before
 abbrev pub OnUsed : Plan → GridPlace → Bool → Verdict → Type 0
 OnUsed plan at is_used (Used n t) = IsFirst plan at is_used n t
 OnUsed plan at is_used other = Unit {0}

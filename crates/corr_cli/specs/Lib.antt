@@ -1,8 +1,7 @@
 pub mod Cells
+pub mod Filling
 pub mod Grid
 pub mod Keeping
-pub mod OwnItems
-pub mod OwnSights
 pub mod Records
 pub mod Sending
 pub mod Settings

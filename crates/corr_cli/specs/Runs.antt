@@ -1,21 +1,19 @@
 -- What a run of the program comes to, by its words and by what its sources give.
 -- This project's own. What is sent is the output of the definitions.
-use Rattle.std.specs.Prelude.{◌≡◌, ◌⊎◌, ℕ, ◌+◌, ◌<◌, ◌≤◌, Bool, true, false, List, [], length, slice_index_or, Option, Some, None, Result, Ok, Err}
+use Rattle.std.specs.Prelude.{◌≡◌, ◌⊎◌, ℕ, ◌<◌, Bool, true, false, List, [], length, slice_index_or, Option, Some, None, Result, Ok, Err}
 use Rattle.corr_model.specs.declared.plan.Plan.{Plan}
-use Rattle.corr_model.specs.Plans.{visibility_bytes}
 use Rattle.corr_model.specs.Streams.{taken}
 use Rattle.corr_model.specs.Visibilities.{Lists}
 use Rattle.corr_model.specs.Outputs.{output}
-use Rattle.corr_model.specs.Built.{has_unbuilt}
 use Rattle.corr_site.specs.Outside.{Appended, Rises, Rose}
 use Rattle.corr_cli.specs.declared.settings.SetRefusal.{SetRefusal}
 use Rattle.corr_cli.specs.declared.answer.Answer.{Answer}
-use Rattle.corr_cli.specs.declared.answer.Answer.TheVariants.{Usage, Settings, UnbuiltOutput, UnbuiltInput, NotBegun, Sent, SinkFault, NoMemory}
+use Rattle.corr_cli.specs.declared.answer.Answer.TheVariants.{Usage, Settings, NotBegun, Sent, SinkFault, NoMemory}
 use Rattle.corr_cli.specs.Words.{PlainWords, numbers_of, form}
 use Rattle.corr_cli.specs.Settings.{plan_of, settings_refusal}
 use Rattle.corr_cli.specs.Sending.{AppendsPackets}
 use Rattle.corr_cli.specs.Texts.{Tells}
-use Rattle.corr_cli.specs.Sourcing.{HasLeastRise, IsLeastRise, AloneRose, AreBegun, AreBegunBefore, GivesUnbuilt}
+use Rattle.corr_cli.specs.Sourcing.{HasLeastRise, IsLeastRise, AloneRose, AreBegun, AreBegunBefore}
 
 -- the words have a form, and its numbers are refused so
 pub record IsRefused (words : List (List ℕ)) (refusal : SetRefusal) : Type 0 where
@@ -35,28 +33,15 @@ pub record HasPlan (words : List (List ℕ)) (plan : Plan) : Type 0 where
   pub accepted : settings_refusal (numbers_of said) ≡ None
   pub is_plan : plan ≡ plan_of (numbers_of said)
 
--- the words have this plan, and its heaps of visibilities fit one packet
-pub record Goes (words : List (List ℕ)) (plan : Plan) : Type 0 where
-  pub has_plan : HasPlan words plan
-  pub one_packet : visibility_bytes plan ≤ 1024
-
--- the words have a plan whose heaps of visibilities do not fit one packet
-pub record NeedsPackets (words : List (List ℕ)) : Type 0 where
-  pub plan : Plan
-  pub has_plan : HasPlan words plan
-  pub large : 1024 < visibility_bytes plan
-
--- the words have a plan that goes
+-- the words have a plan
 pub record GoesOn (words : List (List ℕ)) : Type 0 where
   pub plan : Plan
-  pub goes : Goes words plan
+  pub has_plan : HasPlan words plan
 
--- what the words are to the answer: without a form, refused so, with heaps for several packets, or with a plan that goes
+-- what the words are to the answer: without a form, refused so, or with a plan
 abbrev pub WordsSay : List (List ℕ) → Answer → Type 0
 WordsSay words Usage = form words ≡ None
 WordsSay words (Settings refusal) = IsRefused words refusal
-WordsSay words UnbuiltOutput = NeedsPackets words
-WordsSay words UnbuiltInput = GoesOn words
 WordsSay words (NotBegun antenna) = GoesOn words
 WordsSay words (Sent packets fault) = GoesOn words
 WordsSay words SinkFault = GoesOn words
@@ -66,7 +51,6 @@ WordsSay words NoMemory = GoesOn words
 abbrev pub IsOfRun : Answer → Type 0
 IsOfRun Usage = ⊥
 IsOfRun (Settings refusal) = ⊥
-IsOfRun UnbuiltOutput = ⊥
 IsOfRun other = Unit {0}
 
 -- the byte strings of each antenna, by number: none past the last
@@ -83,11 +67,6 @@ pub record AreGiven {S : Type 0} (plan : Plan) (gives : S → Option (List (List
 pub record GaveTaken {S : Type 0} (plan : Plan) (gives : S → Option (List (List ℕ))) (given : S → ℕ) (old now : List S) : Type 0 where
   pub each : (a : ℕ) (d : S) (strings : List (List ℕ)) → a < plan.antennas → gives (slice_index_or old a d) ≡ Some strings → given (slice_index_or old a d) ≡ 0
       → given (slice_index_or now a d) ≡ length (taken plan strings)
-
--- none of the plan's sources that tells what it gives, and gave nothing before, gives an unbuilt string
-pub record NoneUnbuilt {S : Type 0} (plan : Plan) (gives : S → Option (List (List ℕ))) (given : S → ℕ) (old : List S) : Type 0 where
-  pub each : (a : ℕ) (d : S) (strings : List (List ℕ)) → a < plan.antennas → gives (slice_index_or old a d) ≡ Some strings → given (slice_index_or old a d) ≡ 0
-      → has_unbuilt plan strings ≡ false
 
 -- what a contract sees of the sources and of the sink, before and after a run
 pub record Seen (S : Type 0) : Type 0 where
@@ -114,29 +93,20 @@ pub record AllBegun {S : Type 0} (plan : Plan) (seen : Seen S) : Type 0 where
   pub sink : seen.sink_begun ≡ true
 
 -- the whole output was sent, of whatever lists the sources give; the fault, if any, is that of the least source whose
--- count of faults rose, and the sink counted none
+-- count of faults rose, and the sink counted none; the packets are as many as the output has, of whatever lists
 pub record SentAll {S : Type 0} (plan : Plan) (seen : Seen S) (packets : ℕ) (fault : Option ℕ) : Type 0 where
   pub all_begun : AllBegun plan seen
+  pub count : (lists : Lists) → packets ≡ length (output plan lists)
   pub output : (lists : List (List (List ℕ))) → AreGiven plan seen.gives seen.given seen.old lists → Appended seen.sent_before (output plan (list_of lists)) seen.sent
   pub taken : GaveTaken plan seen.gives seen.given seen.old seen.now
-  pub built : NoneUnbuilt plan seen.gives seen.given seen.old
-  pub count : packets ≡ plan.accumulations + 2
   pub least : HasLeastRise seen.faults plan.antennas seen.old seen.now fault
   pub sink_kept : seen.sink_faults ≡ seen.sink_faults_before
 
--- a front of the output was sent, of whatever lists the sources give, and the sink counted a fault; if the sink is begun,
--- no source gives an unbuilt string
+-- a front of the output was sent, of whatever lists the sources give, and the sink counted a fault
 pub record SentFront {S : Type 0} (plan : Plan) (seen : Seen S) : Type 0 where
   pub sources : AreBegun seen.begun plan.antennas seen.now
   pub output : (lists : List (List (List ℕ))) → AreGiven plan seen.gives seen.given seen.old lists → AppendsPackets seen.sent_before seen.sent (output plan (list_of lists))
-  pub built : seen.sink_begun ≡ true → NoneUnbuilt plan seen.gives seen.given seen.old
   pub sink_rose : Rises seen.sink_faults_before seen.sink_faults
-
--- a source gives an unbuilt string, and nothing was sent though all were begun
-pub record FoundUnbuilt {S : Type 0} (plan : Plan) (seen : Seen S) : Type 0 where
-  pub all_begun : AllBegun plan seen
-  pub found : GivesUnbuilt plan seen.gives seen.given seen.old
-  pub quiet : SentNothing seen
 
 -- a source could not be begun: its count of faults alone rose, those before it are begun, the sink is not, and nothing was sent
 pub record FailedToBegin {S : Type 0} (plan : Plan) (seen : Seen S) (antenna : ℕ) : Type 0 where
@@ -149,7 +119,6 @@ pub record FailedToBegin {S : Type 0} (plan : Plan) (seen : Seen S) (antenna : �
 abbrev pub Correlates : {S E : Type 0} → Plan → Seen S → Result Answer E → Type 0
 Correlates plan seen (Ok (Sent packets fault)) = SentAll plan seen packets fault
 Correlates plan seen (Ok SinkFault) = SentFront plan seen
-Correlates plan seen (Ok UnbuiltInput) = FoundUnbuilt plan seen
 Correlates plan seen (Ok other) = ⊥
 Correlates plan seen (Err e) = SentNothing seen
 
@@ -157,7 +126,6 @@ Correlates plan seen (Err e) = SentNothing seen
 abbrev pub RunsPlan : {S E : Type 0} → Plan → Seen S → Result Answer E → Type 0
 RunsPlan plan seen (Ok (Sent packets fault)) = SentAll plan seen packets fault
 RunsPlan plan seen (Ok SinkFault) = SentFront plan seen
-RunsPlan plan seen (Ok UnbuiltInput) = FoundUnbuilt plan seen
 RunsPlan plan seen (Ok (NotBegun antenna)) = FailedToBegin plan seen antenna
 RunsPlan plan seen (Ok other) = ⊥
 RunsPlan plan seen (Err e) = SentNothing seen
@@ -172,8 +140,6 @@ pub record Untouched {S : Type 0} (seen : Seen S) : Type 0 where
 abbrev pub Comes : {S : Type 0} → List (List ℕ) → Seen S → Answer → Type 0
 Comes words seen Usage = Untouched seen
 Comes words seen (Settings refusal) = Untouched seen
-Comes words seen UnbuiltOutput = Untouched seen
-Comes words seen UnbuiltInput = (plan : Plan) → HasPlan words plan → FoundUnbuilt plan seen
 Comes words seen (NotBegun antenna) = (plan : Plan) → HasPlan words plan → FailedToBegin plan seen antenna
 Comes words seen (Sent packets fault) = (plan : Plan) → HasPlan words plan → SentAll plan seen packets fault
 Comes words seen SinkFault = (plan : Plan) → HasPlan words plan → SentFront plan seen

@@ -1,17 +1,15 @@
 -- The output stream by given columns, and what of it was sent.
 -- SPEAD protocol definition, version 4: packets and item pointers. The order of what is sent is this project's own.
-use Rattle.std.specs.Prelude.{◌≡◌, ℕ, ◌+◌, List, [], ◌∷◌, ◌++◌, length, get_or, Option, Result, Ok, Err}
+use Rattle.std.specs.Prelude.{◌≡◌, ℕ, ◌+◌, ◌*◌, ◌^◌, ◌<◌, ◌≤◌, List, [], ◌++◌, length, take, drop, get_or, Option, Result, Ok, Err}
 use Rattle.std.specs.Int.{bytes_high_first}
 use Rattle.std.specs.List.{All, flat_map}
 use Rattle.corr_model.specs.declared.plan.Plan.{Plan}
 use Rattle.corr_model.specs.declared.pointer.Pointer.{Pointer}
-use Rattle.corr_model.specs.declared.item.Dim.{Dim}
-use Rattle.corr_model.specs.declared.item.ItemType.{ItemType}
 use Rattle.corr_model.specs.Plans.{sample_bytes}
 use Rattle.corr_model.specs.Lists.{numbers}
-use Rattle.corr_model.specs.Descriptors.{DescribedItem, immediate, word_of}
 use Rattle.corr_model.specs.Visibilities.{part_of, missing_of}
-use Rattle.corr_model.specs.Outputs.{complex_bytes, packets_of, visibility_pointers, head_packets, stop_packets, pairs, products}
+use Rattle.corr_model.specs.Outputs.{complex_bytes, heap_packet, packets_of, visibility_pointers, head_packets, stop_packets, pairs, products}
+use Rattle.spead_wire.specs.Widths.{IsHeapPointer}
 use Rattle.corr_site.specs.Outside.{Appended}
 use Rattle.corr_cli.specs.Sums.{HasWidth, column_of}
 
@@ -43,9 +41,13 @@ missing_bytes_by columns n ij = bytes_high_first 4 (missing_of (columns ij.0 n) 
 abbrev pub missing_payload_by : Plan → Columns → ℕ → List ℕ
 missing_payload_by plan columns n = flat_map (missing_bytes_by columns n) (pairs plan.antennas)
 
+-- the values and the missing counts of accumulation n
+abbrev pub visibility_payload_by : Plan → Columns → ℕ → List ℕ
+visibility_payload_by plan columns n = value_payload_by plan columns n ++ missing_payload_by plan columns n
+
 -- the visibility heap of accumulation n, counter n + 2
 abbrev pub heap_packets_by : Plan → Columns → ℕ → List (List ℕ)
-heap_packets_by plan columns n = packets_of plan (n + 2) (visibility_pointers plan n) (value_payload_by plan columns n ++ missing_payload_by plan columns n)
+heap_packets_by plan columns n = packets_of plan (n + 2) (visibility_pointers plan n) (visibility_payload_by plan columns n)
 
 -- the whole output: the descriptor heap, the visibility heap of each accumulation in order, the stop heap
 abbrev pub output_by : Plan → Columns → List (List ℕ)
@@ -60,15 +62,16 @@ pub record AreStreams (plan : Plan) (streams : List (List (ℕ × List ℕ))) : 
   pub one_each : length streams ≡ plan.antennas
   pub whole : All (λ s. HasWidth s (sample_bytes plan)) streams
 
--- an item's description by its parts
-abbrev pub described : ℕ → List Dim → List ItemType → List ℕ → DescribedItem
-described id shape types name = record { id = id; shape = shape; types = types; name = name }
+-- packet k of a heap
+abbrev pub piece_packet : Plan → ℕ → List Pointer → List ℕ → ℕ → List ℕ
+piece_packet plan counter own payload k = heap_packet counter (length payload) own (k * plan.packet) (take plan.packet (drop (k * plan.packet) payload))
 
--- the front of a heap's one packet: the header, then counter, size, offset and length, then the heap's own pointers
-abbrev pub packet_front : ℕ → ℕ → List Pointer → List ℕ
-packet_front counter size own =
-    (0x53 ∷ 0x04 ∷ 0x02 ∷ 0x06 ∷ 0 ∷ 0 ∷ [])
-    ++ (bytes_high_first 2 (4 + length own) ++ flat_map word_of (immediate 1 counter ∷ immediate 2 size ∷ immediate 3 0 ∷ immediate 4 size ∷ own))
+-- a heap that fits the widths of a packet, and the room for one: at most three pointers of its own
+pub record IsSendable (counter : ℕ) (own : List Pointer) (payload : List ℕ) : Type 0 where
+  pub counter_fits : counter < 2 ^ 48
+  pub few : length own ≤ 3
+  pub own_each : All IsHeapPointer own
+  pub size_fits : length payload < 2 ^ 48
 
 -- a front of the packets was appended
 pub record AppendsPackets (before now : Option (List (List ℕ))) (packets : List (List ℕ)) : Type 0 where

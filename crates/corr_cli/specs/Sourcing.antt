@@ -2,18 +2,12 @@
 -- This project's own.
 use Rattle.std.specs.Prelude.{◌≡◌, ◌≢◌, ℕ, ◌+◌, ◌*◌, ◌<◌, ◌≤◌, Bool, true, false, List, [], length, slice_index_or, Option, Some, None, Result, Ok, Err}
 use Rattle.corr_model.specs.declared.plan.Plan.{Plan}
-use Rattle.corr_model.specs.Plans.{sample_bytes}
 use Rattle.corr_model.specs.Streams.{taken, cell}
-use Rattle.corr_model.specs.Built.{has_unbuilt}
 use Rattle.corr_site.specs.declared.place.Place.{Place}
 use Rattle.corr_site.specs.Outside.{Rises}
 use Rattle.corr_cli.specs.declared.reading.Streamed.{Streamed}
-use Rattle.corr_cli.specs.declared.reading.Streamed.TheVariants as streamed
 use Rattle.corr_cli.specs.declared.reading.Gathered.{Gathered}
-use Rattle.corr_cli.specs.declared.reading.Gathered.TheVariants as gathered
 use Rattle.corr_cli.specs.Cells.{cell_of}
-use Rattle.corr_cli.specs.Sums.{HasWidth}
-use Rattle.corr_cli.specs.Sending.{AreStreams}
 
 -- the first so many sources are begun
 pub record AreBegun {S : Type 0} (begun : S → Bool) (count : ℕ) (sources : List S) : Type 0 where
@@ -76,57 +70,29 @@ abbrev pub BeginHasCause : {S T : Type 0} → (S → ℕ) → ℕ → List S →
 BeginHasCause faults count old now (Ok x) = KeepsEach faults old now
 BeginHasCause faults count old now (Err failed) = AloneRose faults count failed old now
 
--- the samples are those that the strings of an antenna define, none of which is unbuilt, and the source gave those that count
+-- the samples are those that the strings of an antenna define, and the source gave those that count
 pub record ReadsCells (plan : Plan) (antenna : ℕ) (strings : List (List ℕ)) (given : ℕ) (cells : List (ℕ × List ℕ)) : Type 0 where
-  pub built : has_unbuilt plan strings ≡ false
   pub count : given ≡ length (taken plan strings)
   pub each : (n t : ℕ) → t < plan.heaps → cell_of cells (n * plan.heaps + t) ≡ cell plan antenna strings n t
 
--- of the strings that a source gives: their samples were read, or one of them is unbuilt
-abbrev pub ReadsStrings : {E : Type 0} → Plan → ℕ → List (List ℕ) → ℕ → Result Streamed E → Type 0
-ReadsStrings plan antenna strings given (Ok (streamed.Read cells failed)) = ReadsCells plan antenna strings given cells
-ReadsStrings plan antenna strings given (Ok streamed.Unbuilt) = has_unbuilt plan strings ≡ true
-ReadsStrings plan antenna strings given (Err e) = Unit {0}
-
--- the same of a source that tells what it gives and gave nothing before
-abbrev pub ReadsTold : {E : Type 0} → Plan → ℕ → Option (List (List ℕ)) → ℕ → ℕ → Result Streamed E → Type 0
-ReadsTold plan antenna gives before given result = (strings : List (List ℕ)) → gives ≡ Some strings → before ≡ 0 → ReadsStrings plan antenna strings given result
-
--- every cell that was read has the bytes of a heap's samples
-abbrev pub AreWide : {E : Type 0} → Plan → Result Streamed E → Type 0
-AreWide plan (Ok (streamed.Read cells failed)) = HasWidth cells (sample_bytes plan)
-AreWide plan (Ok streamed.Unbuilt) = Unit {0}
-AreWide plan (Err e) = Unit {0}
+-- of a source that tells what it gives, and gave nothing before, the samples were read
+abbrev pub ReadsTold : Plan → ℕ → Option (List (List ℕ)) → ℕ → ℕ → List (ℕ × List ℕ) → Type 0
+ReadsTold plan antenna gives before given cells = (strings : List (List ℕ)) → gives ≡ Some strings → before ≡ 0 → ReadsCells plan antenna strings given cells
 
 -- the count of faults rose where the source failed, and is as it was else
+abbrev pub RisesIf : Bool → ℕ → ℕ → Type 0
+RisesIf true before now = Rises before now
+RisesIf false before now = now ≡ before
+
+-- the same of what was read, and it is as it was where there was no memory
 abbrev pub StreamHasCause : {E : Type 0} → ℕ → ℕ → Result Streamed E → Type 0
-StreamHasCause before now (Ok (streamed.Read cells true)) = Rises before now
-StreamHasCause before now (Ok (streamed.Read cells false)) = now ≡ before
-StreamHasCause before now (Ok streamed.Unbuilt) = now ≡ before
+StreamHasCause before now (Ok read) = RisesIf read.failed before now
 StreamHasCause before now (Err e) = now ≡ before
 
 -- each of the first so many sources that tells what it gives, and gave nothing before, was read to these samples
 pub record ReadsEach {S : Type 0} (plan : Plan) (gives : S → Option (List (List ℕ))) (given : S → ℕ) (count : ℕ) (old now : List S) (streams : List (List (ℕ × List ℕ))) : Type 0 where
   pub each : (a : ℕ) (d : S) (strings : List (List ℕ)) → a < count → gives (slice_index_or old a d) ≡ Some strings → given (slice_index_or old a d) ≡ 0
       → ReadsCells plan a strings (given (slice_index_or now a d)) (slice_index_or streams a [])
-
--- a source of the plan's antennas gives an unbuilt string, if it tells what it gives and gave nothing before
-pub record GivesUnbuilt {S : Type 0} (plan : Plan) (gives : S → Option (List (List ℕ))) (given : S → ℕ) (old : List S) : Type 0 where
-  pub antenna : ℕ
-  pub within : antenna < plan.antennas
-  pub unbuilt : (d : S) (strings : List (List ℕ)) → gives (slice_index_or old antenna d) ≡ Some strings → given (slice_index_or old antenna d) ≡ 0 → has_unbuilt plan strings ≡ true
-
--- the sources of the plan's antennas were read, or one of them gives an unbuilt string
-abbrev pub GathersTold : {S E : Type 0} → Plan → (S → Option (List (List ℕ))) → (S → ℕ) → List S → List S → Result Gathered E → Type 0
-GathersTold plan gives given old now (Ok (gathered.Read streams fault)) = ReadsEach plan gives given plan.antennas old now streams.items
-GathersTold plan gives given old now (Ok gathered.Unbuilt) = GivesUnbuilt plan gives given old
-GathersTold plan gives given old now (Err e) = Unit {0}
-
--- there are as many streams as antennas, and every cell of theirs has the bytes of a heap's samples
-abbrev pub GathersStreams : {E : Type 0} → Plan → Result Gathered E → Type 0
-GathersStreams plan (Ok (gathered.Read streams fault)) = AreStreams plan streams.items
-GathersStreams plan (Ok gathered.Unbuilt) = Unit {0}
-GathersStreams plan (Err e) = Unit {0}
 
 -- no count of faults fell
 pub record NoneFell {S : Type 0} (faults : S → ℕ) (old now : List S) : Type 0 where
@@ -146,8 +112,7 @@ HasLeastRise faults count old now (Some least) = IsLeastRise faults count least 
 
 -- the fault that is answered is that of the least source whose count of faults rose; no count ever falls
 abbrev pub GatherHasCause : {S E : Type 0} → (S → ℕ) → ℕ → List S → List S → Result Gathered E → Type 0
-GatherHasCause faults count old now (Ok (gathered.Read streams fault)) = HasLeastRise faults count old now fault
-GatherHasCause faults count old now (Ok gathered.Unbuilt) = NoneFell faults old now
+GatherHasCause faults count old now (Ok read) = HasLeastRise faults count old now read.fault
 GatherHasCause faults count old now (Err e) = NoneFell faults old now
 
 -- the first fault, or this antenna where its source failed

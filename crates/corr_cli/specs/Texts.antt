@@ -6,14 +6,12 @@ use Rattle.corr_cli.specs.declared.settings.Key.TheVariants.{Antennas, Channels,
 use Rattle.corr_cli.specs.declared.settings.SetRefusal.{SetRefusal}
 use Rattle.corr_cli.specs.declared.settings.SetRefusal.TheVariants.{Range, TooLarge}
 use Rattle.corr_cli.specs.declared.answer.Answer.{Answer}
-use Rattle.corr_cli.specs.declared.answer.Answer.TheVariants.{Usage, Settings, UnbuiltOutput, UnbuiltInput, NotBegun, Sent, SinkFault, NoMemory}
+use Rattle.corr_cli.specs.declared.answer.Answer.TheVariants.{Usage, Settings, NotBegun, Sent, SinkFault, NoMemory}
 
 -- the code of what a run comes to
 abbrev pub code_of : Answer → ℕ
 code_of Usage = 1
 code_of (Settings refusal) = 2
-code_of UnbuiltOutput = 7
-code_of UnbuiltInput = 7
 code_of (NotBegun antenna) = 3
 code_of (Sent packets None) = 0
 code_of (Sent packets (Some antenna)) = 3
@@ -66,8 +64,6 @@ later_line (Some antenna) = source_line antenna
 abbrev pub text_of : Answer → List ℕ
 text_of Usage = usage
 text_of (Settings refusal) = refusal_line refusal
-text_of UnbuiltOutput = codes "not built output\n"
-text_of UnbuiltInput = codes "not built input\n"
 text_of (NotBegun antenna) = source_line antenna
 text_of (Sent packets fault) = sent_line packets ++ later_line fault
 text_of SinkFault = codes "sink fault\n"

@@ -8,8 +8,7 @@ use crate::settings::SetRefusal;
 /// The status with which the program ends.
 #[derive(Clone, Copy, Debug, PartialEq, Eq)]
 pub struct Status {
-    /// 0 done, 1 usage, 2 settings, 3 source fault, 4 sink fault, 5 no memory, 6 print fault,
-    /// 7 not built.
+    /// 0 done, 1 usage, 2 settings, 3 source fault, 4 sink fault, 5 no memory, 6 print fault.
     pub code: u8,
 }
 
@@ -20,10 +19,6 @@ pub enum Answer {
     Usage,
     /// The numbers of the command are refused.
     Settings(SetRefusal),
-    /// An accumulation's visibilities do not fit one packet, and more are not built yet.
-    UnbuiltOutput,
-    /// A source gave what is not built yet.
-    UnbuiltInput,
     /// The source of this antenna could not be begun.
     NotBegun(u32),
     /// So many packets were sent, and the least antenna whose source failed later, if one did.
@@ -46,7 +41,6 @@ impl Answer {
             Answer::NotBegun(_) | Answer::Sent(_, Some(_)) => 3,
             Answer::SinkFault => 4,
             Answer::NoMemory => 5,
-            Answer::UnbuiltOutput | Answer::UnbuiltInput => 7,
         }
     }
 }

@@ -4,7 +4,7 @@ ghost use Rattle.std.specs.Prelude.{◌≡◌, ◌+◌, ◌≤◌, ◌++◌, [],
 
 use std::marker::Model;
 
-/// The room of a draft in bytes: any line, and any packet with 1,024 bytes of payload.
+/// The room of a draft in bytes: any text, and the descriptors of the output.
 pub const ROOM: usize = 2048;
 
 /// Bytes at the front of a buffer, seen as their list.

@@ -1,23 +1,25 @@
 //! What a stream keeps of the heaps that were judged: how far they reached, and their cells.
 
-ghost use Rattle.std.specs.Prelude.{◌≡◌, ◌<◌, ◌≤◌, ◌^◌, ◌+◌, ◌++◌, List, [], ◌∷◌, length, max, OnOk};
+ghost use Rattle.std.specs.Prelude.{◌≡◌, ◌<◌, ◌≤◌, ◌^◌, ◌+◌, ◌++◌, List, [], ◌∷◌, length, max, option_map, IfSome, OnOk};
 ghost use Rattle.corr_model.specs.Plans.{Fits, sample_bytes};
-ghost use Rattle.corr_model.specs.Streams.{Judged, raises};
+ghost use Rattle.corr_model.specs.Assembly.{WholeHeap};
+ghost use Rattle.corr_model.specs.Streams.{Judged, judged_as, raises, stops};
+ghost use Rattle.item_group.specs.Looking.{said};
 ghost use Rattle.corr_cli.specs.Grid.{uses};
 ghost use Rattle.corr_model.specs.declared.plan.Plan.{Plan};
 
 use crate::cells::Cells;
-use crate::item_list::Items;
 use crate::judge::{GridPlace, OnGrid, on_grid, verdict_on};
-use crate::sights::{is_stop, sight_in};
 use corr_model::{Plan, Verdict};
 use corr_site::NoMemory;
+use item_group::Sight;
 use std::alloc::Global;
 
 /// What is kept of the heaps so far.
 #[derive(Drop)]
 pub struct Kept {
-    /// One more than the greatest accumulation of the heaps on the grid, or 0 before any.
+    /// One more than the greatest accumulation of the heaps that were beyond, late, twice or used,
+    /// or 0 before any.
     pub above: u128,
     /// The samples of the heaps that were used.
     pub cells: Cells,
@@ -45,7 +47,7 @@ fn is_use(verdict: Verdict) -> bool
 }
 
 impl Kept {
-    ghost use Rattle.corr_cli.specs.Keeping.{Agrees, IsPlacedAs, JudgesOn};
+    ghost use Rattle.corr_cli.specs.Keeping.{Agrees, IsPlacedAs};
 
     /// What is kept before any heap.
     pub fn new(alloc: Global) -> Self
@@ -57,36 +59,36 @@ impl Kept {
         }
     }
 
-    /// Judges a whole heap of these pointers and this payload by the earlier ones. True where it is
-    /// a stop heap.
+    /// Judges a whole heap by the earlier ones: whether it is a stop heap, and what it says where it
+    /// is readable.
     pub fn judge(
         &mut self,
         alloc: Global,
         plan: &Plan,
         antenna: u32,
-        items: &Items,
-        payload: &[u8],
-    ) -> Result<bool, NoMemory>
+        stop: bool,
+        sight: Option<Sight<'_>>,
+    ) -> Result<(), NoMemory>
         requires fits { Fits plan.now }
-        ensures { JudgesOn plan.now antenna items.now payload.now self.old self.new result }
+        requires width { IfSome sight (λ s. length s.samples.now ≡ sample_bytes plan.now) }
+        ensures { (js : List Judged) (heap : WholeHeap) → stop ≡ stops heap
+            → Agrees plan.now self.old js → OnOk result (Agrees plan.now self.new
+            (js ++ judged_as plan.now antenna js heap (option_map said sight.entry) ∷ [])) }
     {
-        if is_stop(items, payload) {
-            return Ok(true);
+        if stop {
+            return Ok(());
         }
-        let sight = match sight_in(plan, items, payload) {
+        let sight = match sight {
             Some(sight) => sight,
-            None => return Ok(false),
+            None => return Ok(()),
         };
         if sight.antenna != u64::from(antenna) {
-            return Ok(false);
+            return Ok(());
         }
         match on_grid(plan, sight.timestamp) {
-            OnGrid::Before => Ok(false),
-            OnGrid::Off => Ok(false),
-            OnGrid::At(at) => {
-                self.place(alloc, plan, at, sight.samples)?;
-                Ok(false)
-            }
+            OnGrid::Before => Ok(()),
+            OnGrid::Off => Ok(()),
+            OnGrid::At(at) => self.place(alloc, plan, at, sight.samples),
         }
     }
 
@@ -102,7 +104,8 @@ impl Kept {
         requires place { at.place < plan.now.heaps }
         requires width { length samples.now ≡ sample_bytes plan.now }
         ensures { (js : List Judged) (j : Judged) → Agrees plan.now self.old js
-            → IsPlacedAs plan.now at samples.now js j → OnOk result (Agrees plan.now self.new (js ++ j ∷ [])) }
+            → IsPlacedAs plan.now at samples.now js j
+            → OnOk result (Agrees plan.now self.new (js ++ j ∷ [])) }
     {
         let is_used = self.cells.get(at.steps).is_some();
         let verdict = verdict_on(plan, self.above, is_used, at);

@@ -6,22 +6,21 @@ mod begin;
 mod capture;
 mod cells;
 mod draft;
-mod item_list;
-mod items;
+mod heap_sender;
 mod judge;
 mod kept;
 mod lines;
-mod one_heap;
-mod packet_draft;
+mod output_items;
+mod payload;
 mod print;
 mod reading;
 mod report;
 mod run;
 mod sender;
 mod settings;
-mod sights;
 mod stream;
 mod sums;
+mod visibilities;
 mod words;
 
 pub use answer::Status;
@@ -31,5 +30,3 @@ pub use run::{no_memory, run_returning};
 
 #[cfg(test)]
 mod front_tests;
-#[cfg(test)]
-mod item_tests;

@@ -26,8 +26,6 @@ pub fn put_answer(draft: &mut Draft, answer: &Answer)
     match *answer {
         Answer::Usage => put_usage(draft),
         Answer::Settings(refusal) => put_refusal(draft, &refusal),
-        Answer::UnbuiltOutput => draft.put(b"not built output\n"),
-        Answer::UnbuiltInput => draft.put(b"not built input\n"),
         Answer::NotBegun(antenna) => put_number(draft, b"source fault ", antenna, b"\n"),
         Answer::Sent(packets, fault) => put_sent(draft, packets, fault),
         Answer::SinkFault => draft.put(b"sink fault\n"),

@@ -1,32 +1,45 @@
 //! Reading the sources: each to the end of its stream, one after another.
 
-ghost use Rattle.std.specs.Prelude.{◌≡◌, ℕ, ◌≤◌, true, length};
-ghost use Rattle.corr_model.specs.Plans.{Fits};
-ghost use Rattle.corr_cli.specs.Sourcing.{AreBegun, AreSameFrom, KeepsEach, KeepsBelonging, ReadsTold, AreWide, StreamHasCause, GathersTold, GathersStreams, GatherHasCause, first_of};
+ghost use Rattle.std.specs.Prelude.{◌≡◌, ℕ, ◌≤◌, true, length, IfOk};
+ghost use Rattle.corr_model.specs.Plans.{Fits, sample_bytes};
+ghost use Rattle.corr_cli.specs.Sourcing.{AreBegun, AreSameFrom, KeepsEach, KeepsBelonging, ReadsTold, StreamHasCause, ReadsEach, GatherHasCause, first_of};
+ghost use Rattle.corr_cli.specs.Sums.{HasWidth};
+ghost use Rattle.corr_cli.specs.Sending.{AreStreams};
 
 use crate::cells::Cells;
-use crate::stream::{Step, Stream};
+use crate::stream::Stream;
 use corr_model::{Observation, Plan};
 use corr_site::{Next, NoMemory, PacketSource};
 use std::alloc::Global;
 
-/// What reading one source came to.
+/// What was read of one source.
 #[derive(Drop)]
-pub enum Streamed {
-    /// The samples of its stream, and whether the source failed before the stream ended.
-    Read(Cells, bool),
-    /// It gave something that the streams do not take yet.
-    Unbuilt,
+pub struct Streamed {
+    /// The samples of its stream.
+    pub cells: Cells,
+    /// Whether the source failed before the stream ended.
+    pub failed: bool,
 }
 
-/// What reading all sources came to.
+impl Streamed {
+    // What was read of a stream.
+    fn of(stream: Stream, failed: bool) -> Self
+        ensures { result ≡ record { cells = stream.kept.cells; failed = failed } }
+    {
+        Streamed {
+            cells: stream.into_cells(),
+            failed,
+        }
+    }
+}
+
+/// What was read of all sources.
 #[derive(Drop)]
-pub enum Gathered {
-    /// The samples of each stream in order of antenna, and the least antenna whose source failed, if
-    /// one did.
-    Read(Vec<Cells>, Option<u32>),
-    /// Some source gave something that the streams do not take yet.
-    Unbuilt,
+pub struct Gathered {
+    /// The samples of each stream in order of antenna.
+    pub streams: Vec<Cells>,
+    /// The least antenna whose source failed, if one did.
+    pub fault: Option<u32>,
 }
 
 /// Reads the source of an antenna to the end of its stream.
@@ -45,25 +58,24 @@ pub fn read_stream<O: Observation, S: PacketSource<O>>(
     ensures gives { S.gives source.new ≡ S.gives source.old }
     ensures belongs { (a : ℕ) → S.belongs source.old a → S.belongs source.new a }
     // What is read.
-    ensures reads { ReadsTold plan.now antenna (S.gives source.old) (S.given source.old) (S.given source.new) result }
-    ensures width { AreWide plan.now result }
+    ensures reads { IfOk result (λ read.
+        ReadsTold plan.now antenna (S.gives source.old) (S.given source.old) (S.given source.new)
+        read.cells) }
+    ensures width { IfOk result (λ read. HasWidth read.cells (sample_bytes plan.now)) }
     ensures cause { StreamHasCause (S.faults source.old) (S.faults source.new) result }
 {
-    let mut stream = Stream::new(alloc, plan, antenna);
+    let mut stream = Stream::new(alloc, plan, antenna)?;
     'strings: while stream.is_open() {
         match source.next(buf) {
             Next::Packet(len) => {
                 let (bytes, _) = buf.split_at(len);
-                match stream.take(alloc, bytes)? {
-                    Step::Built => {}
-                    Step::Unbuilt => return Ok(Streamed::Unbuilt),
-                }
+                stream.take(alloc, bytes)?;
             }
-            Next::End => return Ok(Streamed::Read(stream.into_cells(), false)),
-            Next::Failed => return Ok(Streamed::Read(stream.into_cells(), true)),
+            Next::End => return Ok(Streamed::of(stream, false)),
+            Next::Failed => return Ok(Streamed::of(stream, true)),
         }
     }
-    Ok(Streamed::Read(stream.into_cells(), false))
+    Ok(Streamed::of(stream, false))
 }
 
 /// Reads the sources of the plan's antennas, each to the end of its stream, in order of antenna.
@@ -84,8 +96,10 @@ pub fn gather<O: Observation, S: PacketSource<O>>(
     ensures gives { KeepsEach S.gives sources.old sources.new }
     ensures belongs { KeepsBelonging S.belongs sources.old sources.new }
     // What is read.
-    ensures reads { GathersTold plan.now S.gives S.given sources.old sources.new result }
-    ensures streams { GathersStreams plan.now result }
+    ensures reads { IfOk result (λ read.
+        ReadsEach plan.now S.gives S.given plan.now.antennas sources.old sources.new
+        read.streams.items) }
+    ensures streams { IfOk result (λ read. AreStreams plan.now read.streams.items) }
     ensures cause { GatherHasCause S.faults plan.now.antennas sources.old sources.new result }
 {
     let mut buf = [0u8; 65536];
@@ -93,15 +107,11 @@ pub fn gather<O: Observation, S: PacketSource<O>>(
     let mut fault = None;
     for antenna in 0..plan.antennas {
         let source = &mut sources[antenna as usize];
-        match read_stream::<O, S>(alloc, plan, antenna, source, &mut buf)? {
-            Streamed::Read(cells, failed) => {
-                fault = first_fault(fault, failed, antenna);
-                streams.push(cells)?;
-            }
-            Streamed::Unbuilt => return Ok(Gathered::Unbuilt),
-        }
+        let read = read_stream::<O, S>(alloc, plan, antenna, source, &mut buf)?;
+        fault = first_fault(fault, read.failed, antenna);
+        streams.push(read.cells)?;
     }
-    Ok(Gathered::Read(streams, fault))
+    Ok(Gathered { streams, fault })
 }
 
 // The least antenna with a fault, with the next one added.

@@ -1,8 +1,8 @@
 //! One run of the program, over any sources and any sink.
 
-ghost use Rattle.std.specs.Prelude.{◌≡◌, ◌↔◌, ◌⊎◌, ℕ, ◌<◌, ◌≤◌, Bool, true, false, List, Option, Some, IfOk, IsNone, MatchBool, All, length, map, string_bytes};
+ghost use Rattle.std.specs.Prelude.{◌≡◌, ◌↔◌, ◌⊎◌, ℕ, ◌<◌, ◌≤◌, Bool, true, false, List, Option, Some, IfOk, IsNone, All, length, map, string_bytes};
 ghost use Rattle.corr_model.specs.declared.plan.Plan.{Plan};
-ghost use Rattle.corr_model.specs.Plans.{Fits, visibility_bytes};
+ghost use Rattle.corr_model.specs.Plans.{Fits};
 ghost use Rattle.corr_model.specs.Outputs.{output};
 ghost use Rattle.corr_site.specs.Outside.{Appended, Rises, Rose};
 ghost use Rattle.corr_site.specs.Places.{place_of};
@@ -12,14 +12,15 @@ ghost use Rattle.corr_cli.specs.Placing.{IsAtOwn, AreAtOwn};
 ghost use Rattle.corr_cli.specs.Texts.{Tells};
 ghost use Rattle.corr_cli.specs.Sending.{AppendsPackets};
 ghost use Rattle.corr_cli.specs.Sourcing.{AreBegun, AreSameFrom, KeepsEach};
-ghost use Rattle.corr_cli.specs.Runs.{AreRefused, HasPlan, Goes, WordsSay, Correlates, RunsPlan, Comes, RanAs, AreGiven, GaveTaken, NoneUnbuilt, IsWhole, FaultOfSource, NoneRose, list_of};
+ghost use Rattle.corr_cli.specs.Runs.{AreRefused, HasPlan, WordsSay, Correlates, RunsPlan, Comes, RanAs, AreGiven, GaveTaken, IsWhole, FaultOfSource, NoneRose, list_of};
 
 use crate::answer::{Answer, Status};
 use crate::begin::begin_all;
-use crate::reading::{Gathered, gather};
+use crate::reading::gather;
 use crate::report::tell;
 use crate::sender::send_output;
 use crate::settings::settings_of;
+use crate::visibilities::room_for_visibilities;
 use crate::words::{Numbers, inputs, output, read_places, read_words};
 use corr_model::{Observation, Plan};
 use corr_site::{NoMemory, PacketSink, PacketSource, Place, TextSink, TextSource};
@@ -75,9 +76,8 @@ pub fn run_returning<O: Observation, S: PacketSource<O>, K: PacketSink, P: TextS
     ensures done { (plan : Plan) → HasPlan (map string_bytes words.now) plan → result.code ≡ 0
         → KeepsEach S.faults sources.old sources.new × (K.faults sink.new ≡ K.faults sink.old)
         × (P.faults print.new ≡ P.faults print.old) }
-    ensures whole { (plan : Plan) (lists : List (List (List ℕ))) → Goes (map string_bytes words.now) plan
-        → AreGiven plan S.gives S.given sources.old lists
-        → NoneUnbuilt plan S.gives S.given sources.old → NoneRose plan S.faults sources.old sources.new
+    ensures whole { (plan : Plan) → HasPlan (map string_bytes words.now) plan
+        → NoneRose plan S.faults sources.old sources.new
         → (Rose (K.faults sink.old) (K.faults sink.new) → ⊥)
         → (Rose (P.faults print.old) (P.faults print.new) → ⊥)
         → (result.code ≡ 0) ⊎ (result.code ≡ 5) }
@@ -148,24 +148,10 @@ fn answer<O: Observation, S: PacketSource<O>, K: PacketSink>(
         Ok(plan) => plan,
         Err(refusal) => return Answer::Settings(refusal),
     };
-    if !fits_one_packet(&plan) {
-        return Answer::UnbuiltOutput;
-    }
     match run_plan::<O, S, K>(alloc, &plan, words, numbers, sources, sink) {
         Ok(answer) => answer,
         Err(NoMemory) => Answer::NoMemory,
     }
-}
-
-// Whether an accumulation's values and missing counts fit one packet.
-fn fits_one_packet(plan: &Plan) -> bool
-    requires fits { Fits plan.now }
-    ensures { MatchBool result
-        (visibility_bytes plan.now ≤ 1024) (1024 < visibility_bytes plan.now) }
-{
-    let antennas = u64::from(plan.antennas);
-    let baselines = antennas * (antennas + 1) / 2;
-    64 * u64::from(plan.channels) * baselines + 4 * baselines <= 1024
 }
 
 // Begins the sources and the sink at the places of the words, correlates and sends.
@@ -180,7 +166,6 @@ fn run_plan<O: Observation, S: PacketSource<O>, K: PacketSink>(
     requires words { HasNumbers (map string_bytes words.now) numbers }
     requires plan { plan.now ≡ plan_of numbers }
     requires fits { Fits plan.now }
-    requires one_packet { visibility_bytes plan.now ≤ 1024 }
     requires sources { length sources.old ≡ 64 }
     requires none_begun { All (λ s. S.begun s ≡ false) sources.old }
     requires sink { K.begun sink.old ≡ false }
@@ -221,8 +206,6 @@ fn run_begun<O: Observation, S: PacketSource<O>, K: PacketSink>(
     sink: &mut K,
 ) -> Result<Answer, NoMemory>
     requires fits { Fits plan.now }
-    requires packet { plan.now.packet ≡ 1024 }
-    requires one_packet { visibility_bytes plan.now ≤ 1024 }
     requires sources { length sources.old ≡ 64 }
     requires begun { AreBegun S.begun plan.now.antennas sources.old }
     ensures length { length sources.new ≡ length sources.old }
@@ -258,8 +241,6 @@ fn correlate<O: Observation, S: PacketSource<O>, K: PacketSink>(
     sink: &mut K,
 ) -> Result<Answer, NoMemory>
     requires fits { Fits plan.now }
-    requires packet { plan.now.packet ≡ 1024 }
-    requires one_packet { visibility_bytes plan.now ≤ 1024 }
     requires sources { length sources.old ≡ 64 }
     requires begun { AreBegun S.begun plan.now.antennas sources.old }
     requires sink { K.begun sink.old ≡ true }
@@ -282,11 +263,10 @@ fn correlate<O: Observation, S: PacketSource<O>, K: PacketSink>(
           sink_begun = K.begun sink.new;
         }) result }
 {
-    match gather::<O, S>(alloc, plan, sources)? {
-        Gathered::Unbuilt => Ok(Answer::UnbuiltInput),
-        Gathered::Read(streams, fault) => match send_output(plan, streams.as_slice(), sink) {
-            Ok(packets) => Ok(Answer::Sent(packets, fault)),
-            Err(_) => Ok(Answer::SinkFault),
-        },
+    let mut payload = room_for_visibilities(alloc, plan)?;
+    let read = gather::<O, S>(alloc, plan, sources)?;
+    match send_output(plan, read.streams.as_slice(), &mut payload, sink) {
+        Ok(packets) => Ok(Answer::Sent(packets, read.fault)),
+        Err(_) => Ok(Answer::SinkFault),
     }
 }

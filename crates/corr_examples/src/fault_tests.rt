@@ -28,7 +28,7 @@ fn a_sink_fault(rt: HostRuntime) -> Result<(), Fail> {
     let end = run_with(rt.alloc(), Fault::SinkSend(1))?;
     assert_eq!(rt; end.code, 4);
     assert_eq!(rt; end.print.text(), b"sink fault\n".as_slice());
-    let wanted = vec![in rt.alloc(); descriptors(rt.alloc())?]?;
+    let wanted = vec![in rt.alloc(); descriptors(rt.alloc(), 1)?]?;
     assert_eq!(rt; end.first_other(&wanted), None);
     Ok(())
 }

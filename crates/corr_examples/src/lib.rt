@@ -2,7 +2,9 @@
 #![tactic(auto)]
 
 #[cfg(test)]
-mod built_tests;
+mod assembly_tests;
+#[cfg(test)]
+mod cut_tests;
 #[cfg(test)]
 mod fault_tests;
 #[cfg(test)]

@@ -1,4 +1,4 @@
-//! The datagrams that a test expects of two antennas and one channel, byte by byte.
+//! The datagrams that a test expects of two antennas, byte by byte.
 
 use crate::packets::{COUNTER, HEADER, LENGTH, OFFSET, SIZE, STOP, TIMESTAMP, packet};
 use std::alloc::{AllocError, Global};
@@ -73,17 +73,21 @@ const OF_MISSING: [u64; 9] = [
 
 // Name, type u48, no dimension.
 const TIMESTAMP_TEXT: &[u8] = b"timestampu\x00\x30";
-// Name, type i64, four fixed dimensions of seven bytes each: 1, 3, 4, 2.
-const VISIBILITIES_TEXT: &[u8] =
-    b"visibilitiesi\x00\x40\x00\x00\x00\x00\x00\x00\x01\x00\x00\x00\x00\x00\x00\x03\x00\x00\x00\x00\x00\x00\x04\x00\x00\x00\x00\x00\x00\x02";
+// Name, type i64, four fixed dimensions of seven bytes each: the channels, and then 3, 4, 2.
+const VISIBILITIES_TEXT: &[u8] = b"visibilitiesi\x00\x40\x00\x00\x00\x00\x00\x00";
+
+const BEHIND_THE_CHANNELS: &[u8] =
+    b"\x00\x00\x00\x00\x00\x00\x03\x00\x00\x00\x00\x00\x00\x04\x00\x00\x00\x00\x00\x00\x02";
 // Name, type u32, one fixed dimension: 3.
 const MISSING_TEXT: &[u8] = b"missingu\x00\x20\x00\x00\x00\x00\x00\x00\x03";
 
-/// The packet of the descriptor heap.
-pub fn descriptors(alloc: Global) -> Result<Vec<u8>, AllocError> {
+/// The packet of the descriptor heap, for so many channels.
+pub fn descriptors(alloc: Global, channels: u8) -> Result<Vec<u8>, AllocError> {
     let mut bytes = packet(alloc, &DESCRIPTOR_HEAP, &[])?;
     bytes.extend_from_slice(packet(alloc, &OF_TIMESTAMP, TIMESTAMP_TEXT)?.as_slice())?;
     bytes.extend_from_slice(packet(alloc, &OF_VISIBILITIES, VISIBILITIES_TEXT)?.as_slice())?;
+    bytes.extend_from_slice(&[channels])?;
+    bytes.extend_from_slice(BEHIND_THE_CHANNELS)?;
     bytes.extend_from_slice(packet(alloc, &OF_MISSING, MISSING_TEXT)?.as_slice())?;
     Ok(bytes)
 }
@@ -130,7 +134,7 @@ pub fn one_accumulation(
     values: &Values,
     missing: [u32; 3],
 ) -> Result<Vec<Vec<u8>>, AllocError> {
-    let head = descriptors(alloc)?;
+    let head = descriptors(alloc, 1)?;
     let heap = visibilities(alloc, 2, 0, values, missing)?;
     let end = stop(alloc, 3)?;
     Ok(vec![in alloc; head, heap, end]?)

@@ -109,7 +109,7 @@ fn a_late_heap_and_a_second_one_at_a_place(rt: HostRuntime) -> Result<(), Fail> 
     assert_eq!(rt; end.print.text(), b"sent 4 packets\n".as_slice());
     // Of the second accumulation there is only (-1, i) of antenna 0.
     let alone = [[1, 0, 0, 1, 0, -1, 1, 0], [0; 8], [0; 8]];
-    let head = descriptors(alloc)?;
+    let head = descriptors(alloc, 1)?;
     let first = visibilities(alloc, 2, 0, &HEAPS_AT_ZERO, [1, 1, 1])?;
     let second = visibilities(alloc, 3, 2, &alone, [1, 2, 2])?;
     let wanted = vec![in alloc; head, first, second, stop(alloc, 4)?]?;

@@ -1,4 +1,4 @@
-//! Words that begin nothing: usage, refused settings, and an output that is not built.
+//! Words that begin nothing: usage and refused settings.
 
 use crate::outside::{Ended, Fault, run, run_text, words_of};
 use crate::packets::{one_heap, two_heaps};
@@ -17,9 +17,8 @@ spead_corr decode IN LIMIT
 
 // Words, the status and the printed text. The settings of the fourth reserve
 // 4 * (8 * (20,480 + 2,560) + 3 * 67,112,960) + 2 * (4 * 67,112,960 + 680) + 680 bytes, where a
-// column has 4,096 * (4 * 4,096 + 1) = 67,112,960. Six antennas have 21 baselines, and their values
-// and counts 64 * 21 + 4 * 21 = 1,428 bytes.
-const WORDS: [(&str, u8, &[u8]); 5] = [
+// column has 4,096 * (4 * 4,096 + 1) = 67,112,960.
+const WORDS: [(&str, u8, &[u8]); 4] = [
     ("spead_corr", 1, USAGE),
     ("spead_corr plain 2 1 1 2 1 a o", 1, USAGE),
     ("spead_corr correlate --fast c", 1, USAGE),
@@ -27,11 +26,6 @@ const WORDS: [(&str, u8, &[u8]); 5] = [
         "spead_corr plain 4 1 4096 4096 1 a b c d o",
         2,
         b"settings: too large 1342998520\n",
-    ),
-    (
-        "spead_corr plain 6 1 1 1 1 a b c d e f o",
-        7,
-        b"not built output\n",
     ),
 ];
 

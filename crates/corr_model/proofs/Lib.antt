@@ -24,8 +24,3 @@ pub mod TableLaws
 pub mod UsedCells
 pub mod WindowLaws
 pub mod WindowLawsHeaps
-pub mod BuiltPackets
-pub mod BuiltHeaps
-pub mod BuiltLaws
-pub mod BuiltStreams
-pub mod BuiltCounts

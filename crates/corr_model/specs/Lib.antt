@@ -19,5 +19,3 @@ pub mod ExamplesWindows
 pub mod ExamplesVerdicts
 pub mod ExamplesDescriptors
 pub mod ExamplesCorrelation
-pub mod Built
-pub mod BuiltExamples

@@ -2,7 +2,6 @@
 #![tactic(auto)]
 
 mod assembly_laws;
-mod built_laws;
 pub mod examples;
 mod heap;
 mod item;
@@ -23,10 +22,6 @@ mod window_laws;
 
 pub use assembly_laws::{
     each_byte_once, no_made_up_byte, packets_end_within_their_sizes, whole_payload_has_its_size,
-};
-pub use built_laws::{
-    built_and_unbuilt_lists, each_string_is_a_heap, next_string_is_a_heap,
-    unbuilt_strings_by_the_last,
 };
 pub use heap::DropCause;
 pub use item::{DescRefusal, Dim, ItemType};

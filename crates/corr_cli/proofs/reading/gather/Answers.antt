@@ -1,10 +1,11 @@
 use Rattle.std.proofs.Common.{◌≡◌, ◌<◌, length, get_or, ap, subst, arith}
+use Rattle.std.proofs.lemmas.Result.{IfOk-from_err}
 use Rattle.corr_cli.specs.Sourcing.{ReadsEach, HasLeastRise}
-use Rattle.corr_cli.proofs.ReadingLemmas.{gathers_on, keeps_sources, no_memory_to_read, no_memory_to_push, no_reads, no_streams, unbuilt_told, unbuilt_cause}
+use Rattle.corr_cli.proofs.ReadingLemmas.{gathers_on, keeps_sources, no_memory_to_read, no_memory_to_push}
 use Rattle.corr_cli.proofs.reading.gather.Goals as goal
 
-pub returns-in_err-cells : goal.returns-in_err-cells
-returns-in_err-cells g c =
+pub returns-in_err-read : goal.returns-in_err-read
+returns-in_err-read g c =
     let S = g.S.PacketSource in
     let r = c.read_stream.ensures in
     let lt : c.loop-antenna.antenna < length c.loop-antenna.sources = omega arith in
@@ -17,14 +18,14 @@ returns-in_err-cells g c =
       at = k.same_at;
       gives = k.same_gives;
       belongs = k.still_belong;
-      reads = no_reads _ S.gives S.given _ _ _ c.from_residual.ensures.0;
-      streams = no_streams _ _ c.from_residual.ensures.0;
-      cause = no_memory_to_read S.faults _ _ _ _ _ _ _ _ lt is c.loop-antenna.invariant.cause c.in_err-cells.ensures.cause c.from_residual.ensures.0;
+      reads = IfOk-from_err _ _ c.from_residual.ensures.0;
+      streams = IfOk-from_err _ _ c.from_residual.ensures.0;
+      cause = no_memory_to_read S.faults _ _ _ _ _ _ _ _ lt is c.loop-antenna.invariant.cause c.in_err-read.ensures.cause c.from_residual.ensures.0;
     }
 
-pub returns-in_err-push-in-Read : goal.returns-in_err-push-in-Read
-returns-in_err-push-in-Read g c =
-    let err = c.from_residual-in_err-push-in-Read.ensures.0 in
+pub returns-in_err-push : goal.returns-in_err-push
+returns-in_err-push g c =
+    let err = c.from_residual-in_err-push.ensures.0 in
     let S = g.S.PacketSource in
     let r = c.read_stream.ensures in
     let lt : c.loop-antenna.antenna < length c.loop-antenna.sources = omega arith in
@@ -37,28 +38,9 @@ returns-in_err-push-in-Read g c =
       at = k.same_at;
       gives = k.same_gives;
       belongs = k.still_belong;
-      reads = no_reads _ S.gives S.given _ _ _ err;
-      streams = no_streams _ _ err;
-      cause = no_memory_to_push S.faults _ _ _ _ _ _ _ _ _ _ _ lt is c.loop-antenna.invariant.cause c.in-Read.is c.in_ok-cells.ensures.cause err;
-    }
-
-pub returns-in-Unbuilt : goal.returns-in-Unbuilt
-returns-in-Unbuilt g c =
-    let S = g.S.PacketSource in
-    let r = c.read_stream.ensures in
-    let lt : c.loop-antenna.antenna < length c.loop-antenna.sources = omega arith in
-    let is = ap (get_or c.loop-antenna.sources c.loop-antenna.antenna) c.index-sources-antenna.is in
-    let k = keeps_sources S.gives S.given S.begun S.at S.belongs S.faults _ _ _ _ _ _ _ _ c.loop-antenna.invariant c.loop-antenna-test.true lt is r.begun r.at r.gives r.belongs in
-    record {
-      length = k.same_length;
-      later = k.later;
-      begun = k.are_begun;
-      at = k.same_at;
-      gives = k.same_gives;
-      belongs = k.still_belong;
-      reads = unbuilt_told _ S.gives S.given _ _ _ _ _ _ lt is c.loop-antenna-test.true c.loop-antenna.invariant.later c.in-Unbuilt.is c.in_ok-cells.ensures.reads;
-      streams = tt;
-      cause = unbuilt_cause S.faults _ _ _ _ _ _ _ lt is c.loop-antenna.invariant.cause c.in-Unbuilt.is c.in_ok-cells.ensures.cause;
+      reads = IfOk-from_err _ _ err;
+      streams = IfOk-from_err _ _ err;
+      cause = no_memory_to_push S.faults _ _ _ _ _ _ _ _ _ lt is c.loop-antenna.invariant.cause c.in_ok-read.ensures.cause err;
     }
 
 pub loop-antenna-preserved : goal.loop-antenna-preserved
@@ -67,8 +49,8 @@ loop-antenna-preserved g c =
     let r = c.read_stream.ensures in
     let lt : c.loop-antenna.antenna < length c.loop-antenna.sources = omega arith in
     let is = ap (get_or c.loop-antenna.sources c.loop-antenna.antenna) c.index-sources-antenna.is in
-    gathers_on S.gives S.given S.begun S.at S.belongs S.faults _ _ _ _ _ _ _ _ _ _ _ _ _ c.loop-antenna.invariant lt is r.begun r.at r.gives r.belongs c.in-Read.is c.in_ok-cells.ensures.reads c.in_ok-cells.ensures.width c.in_ok-cells.ensures.cause
-    c.first_fault-fault.ensures c.in_ok-push-in-Read.ensures.items
+    gathers_on S.gives S.given S.begun S.at S.belongs S.faults _ _ _ _ _ _ _ _ _ _ _ _ c.loop-antenna.invariant lt is r.begun r.at r.gives r.belongs c.in_ok-read.ensures.reads c.in_ok-read.ensures.width c.in_ok-read.ensures.cause
+    c.first_fault-fault.ensures c.in_ok-push.ensures.items
 
 pub returns-clause-reads : goal.returns-clause-reads
 returns-clause-reads g c =

@@ -9,17 +9,10 @@ use Rattle.corr_cli.proofs.run.answer.Goals as goal
 pub returns-in-Err-clause-words : goal.returns-in-Err-clause-words
 returns-in-Err-clause-words g c = refusal_found _ c.in-Some.numbers c.in-Err.refusal (sym c.in-Some.ensures) c.in-Err.ensures.settings
 
-pub returns-then-not-fits_one_packet-clause-words : goal.returns-then-not-fits_one_packet-clause-words
-returns-then-not-fits_one_packet-clause-words g c = record {
-  plan = c.in-Ok.plan;
-  has_plan = plan_found _ c.in-Some.numbers c.in-Ok.plan (sym c.in-Some.ensures) c.in-Ok.ensures.settings.0 c.in-Ok.ensures.settings.1;
-  large = c.if-not-fits_one_packet.ensures;
-}
-
 pub returns-in-Ok-run_plan-clause-words : goal.returns-in-Ok-run_plan-clause-words
 returns-in-Ok-run_plan-clause-words g c =
     words_of_run (map string_bytes c.args.words.now) c.in-Ok-run_plan.answer (is_of_run {E = NoMemory} c.in-Ok.plan _ (Ok c.in-Ok-run_plan.answer) c.in-Ok-run_plan.ensures.runs)
-    (goes_on _ c.in-Some.numbers c.in-Ok.plan (sym c.in-Some.ensures) c.in-Ok.ensures.settings.0 c.in-Ok.ensures.settings.1 c.if-not-fits_one_packet.ensures)
+    (goes_on _ c.in-Some.numbers c.in-Ok.plan (sym c.in-Some.ensures) c.in-Ok.ensures.settings.0 c.in-Ok.ensures.settings.1)
 
 pub returns-in-Ok-run_plan-clause-comes : goal.returns-in-Ok-run_plan-clause-comes
 returns-in-Ok-run_plan-clause-comes g c =
@@ -27,4 +20,4 @@ returns-in-Ok-run_plan-clause-comes g c =
     (plan_found _ c.in-Some.numbers c.in-Ok.plan (sym c.in-Some.ensures) c.in-Ok.ensures.settings.0 c.in-Ok.ensures.settings.1) c.in-Ok-run_plan.ensures.runs
 
 pub returns-in-Err-run_plan-clause-words : goal.returns-in-Err-run_plan-clause-words
-returns-in-Err-run_plan-clause-words g c = goes_on _ c.in-Some.numbers c.in-Ok.plan (sym c.in-Some.ensures) c.in-Ok.ensures.settings.0 c.in-Ok.ensures.settings.1 c.if-not-fits_one_packet.ensures
+returns-in-Err-run_plan-clause-words g c = goes_on _ c.in-Some.numbers c.in-Ok.plan (sym c.in-Some.ensures) c.in-Ok.ensures.settings.0 c.in-Ok.ensures.settings.1

@@ -69,7 +69,7 @@ returns-clause-done g c =
 
 pub returns-clause-whole : goal.returns-clause-whole
 returns-clause-whole g c =
-    λ plan lists goes given built quiet sink_quiet print_quiet.
+    λ plan has quiet sink_quiet print_quiet.
     let some : 0 < length c.args.sources.now = omega (arith, c.requires.sources) in
     runs_whole_told (map string_bytes c.args.words.now) _ _ (some_of c.args.sources.now some) c.answer.result c.answer.ensures.words c.answer.ensures.comes
-    _ _ _ _ c.tell.ensures plan lists goes given built quiet sink_quiet print_quiet
+    _ _ _ _ c.tell.ensures plan has quiet sink_quiet print_quiet
