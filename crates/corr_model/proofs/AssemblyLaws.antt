@@ -11,7 +11,7 @@ use Rattle.corr_model.specs.declared.heap.DropCause.{DropCause}
 use Rattle.corr_model.specs.declared.heap.DropCause.TheVariants.{SizeDiffers, PastSize, Overlap, TooManyPointers}
 use Rattle.corr_model.specs.Lists.{numbers}
 use Rattle.corr_model.specs.Packets.{Parts}
-use Rattle.corr_model.specs.Windows.{Placed, end_of}
+use Rattle.corr_model.specs.Windows.{PlacedPacket, end_of}
 use Rattle.corr_model.specs.Assembly.{byte_of, joined, sizes_differ, is_past, share_a_byte, pointers_of, drop_cause, Fate, kept, fate_next, said_size, adds_up, payload_bytes, holds_byte}
 use Rattle.corr_model.proofs.CountedLists.{length-numbers, numbers_push, get_or-numbers}
 
@@ -210,12 +210,12 @@ abbrev pub kept_by : Option DropCause → List Parts → Parts → List Parts
 kept_by None ps p = ps ++ p ∷ []
 kept_by (Some cause) ps p = ps
 
-kept_one : (q : Placed) (cause : Option DropCause) (ps : List Parts) → ps ++ kept (record { member = q; cause = cause } ∷ []) ≡ kept_by cause ps q.packet
+kept_one : (q : PlacedPacket) (cause : Option DropCause) (ps : List Parts) → ps ++ kept (record { member = q; cause = cause } ∷ []) ≡ kept_by cause ps q.packet
 kept_one q None ps = refl
 kept_one q (Some cause) ps = append-nil ps
 
 -- one more member among the kept packets
-pub kept_push : (fs : List Fate) (q : Placed) → kept (fs ++ fate_next fs q ∷ []) ≡ kept_by (drop_cause (kept fs) q.packet) (kept fs) q.packet
+pub kept_push : (fs : List Fate) (q : PlacedPacket) → kept (fs ++ fate_next fs q ∷ []) ≡ kept_by (drop_cause (kept fs) q.packet) (kept fs) q.packet
 kept_push fs q =
     let is_kept : Fate → Bool = λ f. is_none f.cause in
     ap (map (λ f. f.member.packet)) (filter-append is_kept fs (fate_next fs q ∷ []))

@@ -9,20 +9,20 @@ use Rattle.corr_model.specs.declared.pointer.Refusal.{Refusal}
 use Rattle.corr_model.specs.declared.pointer.Refusal.TheVariants.{NoCounter, NoOffset, NoLength, Length, PastHeap}
 use Rattle.corr_model.specs.Lists.{fronts}
 use Rattle.corr_model.specs.Packets.{Parts, last_value, pointers_in, payload_in, front_refusal, length_refusal, said_refusal, either_row, refusal_of, parts_in, packet_in}
-use Rattle.corr_model.specs.Windows.{Placed, place_next, placed_in, is_member, members, is_within, heard_in, heard, end_of}
+use Rattle.corr_model.specs.Windows.{PlacedPacket, place_next, placed_in, is_member, members, is_within, heard_in, heard, end_of}
 use Rattle.corr_model.specs.Assembly.{drop_cause, Fate, fate_next, fates, kept, is_complete, whole_front, said_size, payload_bytes, holds_byte, joined}
 use Rattle.corr_model.proofs.EachElement.{all_in_turn, all_filter_map, all_find, and_then, find_passes, if_some}
 use Rattle.corr_model.proofs.AssemblyLaws.{EndsWithin, IsApart, added_up, apart_by, held_once, joined_byte, kept_push, length-joined, none_apart}
 
-abbrev MemberEndsWithin : Placed → Type 0
+abbrev MemberEndsWithin : PlacedPacket → Type 0
 MemberEndsWithin m = EndsWithin m.packet
 
 -- the fates of members after these
-abbrev rest_of : List Fate → List Placed → List Fate
+abbrev rest_of : List Fate → List PlacedPacket → List Fate
 rest_of fs [] = []
 rest_of fs (m ∷ ms) = fate_next fs m ∷ rest_of (fs ++ fate_next fs m ∷ []) ms
 
-fates_from : (fs : List Fate) (ms : List Placed) → fold (λ before q. before ++ fate_next before q ∷ []) fs ms ≡ fs ++ rest_of fs ms
+fates_from : (fs : List Fate) (ms : List PlacedPacket) → fold (λ before q. before ++ fate_next before q ∷ []) fs ms ≡ fs ++ rest_of fs ms
 fates_from fs [] = sym (append-nil fs)
 fates_from fs (m ∷ ms) = fates_from (fs ++ fate_next fs m ∷ []) ms ∙ append_assoc fs (fate_next fs m ∷ []) (rest_of (fs ++ fate_next fs m ∷ []) ms)
 
@@ -30,7 +30,7 @@ fates_from fs (m ∷ ms) = fates_from (fs ++ fate_next fs m ∷ []) ms ∙ appen
 abbrev ApartAfter : List Fate → List Fate → Type 0
 ApartAfter fs front = IsApart (kept (fs ++ front))
 
-fronts_apart : (fs : List Fate) (ms : List Placed) → All MemberEndsWithin ms → IsApart (kept fs) → All (ApartAfter fs) (fronts (rest_of fs ms))
+fronts_apart : (fs : List Fate) (ms : List PlacedPacket) → All MemberEndsWithin ms → IsApart (kept fs) → All (ApartAfter fs) (fronts (rest_of fs ms))
 fronts_apart fs [] own apart = All-nil (ApartAfter fs)
 fronts_apart fs (m ∷ ms) own apart =
     let f = fate_next fs m in
@@ -42,29 +42,29 @@ fronts_apart fs (m ∷ ms) own apart =
     All-cons (ApartAfter fs) (f ∷ []) (map (λ front. f ∷ front) gs) here
     (All-map (ApartAfter fs) (λ front. f ∷ front) gs (λ k d inside. subst (λ all. IsApart (kept all)) (append_assoc fs (f ∷ []) (get_or gs k d)) (later k d inside)))
 
-all_fronts_apart : (ms : List Placed) → All MemberEndsWithin ms → All (λ front. IsApart (kept front)) (fronts (fates ms))
+all_fronts_apart : (ms : List PlacedPacket) → All MemberEndsWithin ms → All (λ front. IsApart (kept front)) (fronts (fates ms))
 all_fronts_apart ms own = subst (λ fs. All (λ front. IsApart (kept front)) (fronts fs)) (sym (fates_from [] ms)) (fronts_apart [] ms own none_apart)
 
-whole_apart : (ms : List Placed) (front : List Fate) → All MemberEndsWithin ms → whole_front ms ≡ Some front → IsApart (kept front)
+whole_apart : (ms : List PlacedPacket) (front : List Fate) → All MemberEndsWithin ms → whole_front ms ≡ Some front → IsApart (kept front)
 whole_apart ms front own whole =
     subst (λ o. IfSome o (λ fs. IsApart (kept fs))) whole (all_find (λ fs. IsApart (kept fs)) is_complete (fronts (fates ms)) (all_fronts_apart ms own))
 
-whole_complete : (ms : List Placed) (front : List Fate) → whole_front ms ≡ Some front → is_complete front ≡ true
+whole_complete : (ms : List PlacedPacket) (front : List Fate) → whole_front ms ≡ Some front → is_complete front ≡ true
 whole_complete ms front whole = subst (λ o. IfSome o (λ fs. is_complete fs ≡ true)) whole (find_passes is_complete (fronts (fates ms)))
 
 -- each byte of a whole heap is held by one kept packet
-pub byte_held_once : (ms : List Placed) (front : List Fate) (k : ℕ) → All (λ m. IfSome m.packet.size (λ size. end_of m.packet ≤ size)) ms → whole_front ms ≡ Some front
+pub byte_held_once : (ms : List PlacedPacket) (front : List Fate) (k : ℕ) → All (λ m. IfSome m.packet.size (λ size. end_of m.packet ≤ size)) ms → whole_front ms ≡ Some front
     → k < payload_bytes (kept front) → count_by (holds_byte k) (kept front) ≡ 1
 byte_held_once ms front k own whole below = held_once (kept front) k (whole_apart ms front own whole) (whole_complete ms front whole) below
 
 -- each byte of a whole heap's payload is that of a kept packet
-pub byte_of_a_packet : (ms : List Placed) (front : List Fate) (k : ℕ) → All (λ m. IfSome m.packet.size (λ size. end_of m.packet ≤ size)) ms → whole_front ms ≡ Some front
+pub byte_of_a_packet : (ms : List PlacedPacket) (front : List Fate) (k : ℕ) → All (λ m. IfSome m.packet.size (λ size. end_of m.packet ≤ size)) ms → whole_front ms ≡ Some front
     → k < payload_bytes (kept front)
     → (p : Parts) × (find (holds_byte k) (kept front) ≡ Some p) × (p.offset ≤ k) × (k < end_of p) × (slice_index (joined (kept front)) k ≡ slice_index p.payload (k - p.offset))
 byte_of_a_packet ms front k own whole below = joined_byte (kept front) k below (byte_held_once ms front k own whole below)
 
 -- a whole heap's payload is as long as its size
-pub size_of_whole : (ms : List Placed) (front : List Fate) → whole_front ms ≡ Some front → said_size (kept front) ≡ Some (length (joined (kept front)))
+pub size_of_whole : (ms : List PlacedPacket) (front : List Fate) → whole_front ms ≡ Some front → said_size (kept front) ≡ Some (length (joined (kept front)))
 size_of_whole ms front whole =
     added_up (said_size (kept front)) (payload_bytes (kept front)) (whole_complete ms front whole) ∙ ap Some (sym (length-joined (kept front)))
 
@@ -112,7 +112,7 @@ heard_ends_within plan l =
     (take plan.packet_limit l) (λ k d inside. tt)
 
 -- so does a member of a heap
-pub member_ends_within : (plan : Plan) (l : List (List ℕ)) (o : Placed) → All (λ m. IfSome m.packet.size (λ size. end_of m.packet ≤ size)) (members plan.window (placed_in plan l) o)
+pub member_ends_within : (plan : Plan) (l : List (List ℕ)) (o : PlacedPacket) → All (λ m. IfSome m.packet.size (λ size. end_of m.packet ≤ size)) (members plan.window (placed_in plan l) o)
 member_ends_within plan l o =
     All-filter (is_member plan.window o) MemberEndsWithin (placed_in plan l)
     (all_in_turn EndsWithin MemberEndsWithin (place_next plan.window) (λ before p is. is) (heard plan l) (heard_ends_within plan l))

@@ -24,3 +24,7 @@ pub mod TableLaws
 pub mod UsedCells
 pub mod WindowLaws
 pub mod WindowLawsHeaps
+pub mod NextTable
+pub mod NextReport
+pub mod Unreached
+pub mod Given

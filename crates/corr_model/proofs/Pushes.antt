@@ -9,9 +9,9 @@ use Rattle.std.proofs.lemmas.List.Folds.{find-append}
 use Rattle.corr_model.specs.declared.plan.Plan.{Plan}
 use Rattle.corr_model.specs.Lists.{fronts}
 use Rattle.corr_model.specs.Packets.{Parts}
-use Rattle.corr_model.specs.Windows.{Placed, openings, placed, place_next, members, is_member}
+use Rattle.corr_model.specs.Windows.{PlacedPacket, openings, placed, place_next, members, is_member}
 use Rattle.corr_model.specs.Assembly.{Fate, fates, fate_next, kept, is_complete, whole_front, whole_now, whole_heaps}
-use Rattle.corr_model.specs.Streams.{Judged, reach, raises, above_top, is_used_at, samples_of, cell_in}
+use Rattle.corr_model.specs.Streams.{JudgedHeap, reach, raises, above_top, is_used_at, samples_of, cell_in}
 use Rattle.corr_model.proofs.Turns.{in_turn_push, fronts_push, filter_map_push}
 
 -- a packet more has the place after those before it
@@ -19,15 +19,15 @@ pub placed_push : (w : ℕ) (h : List Parts) (p : Parts) → placed w (h ++ p �
 placed_push w h p = in_turn_push (place_next w) h p
 
 -- a packet more is an opening more, where it opens
-pub openings_push : (ps : List Placed) (q : Placed) → openings (ps ++ q ∷ []) ≡ openings ps ++ cond q.opens (q ∷ []) []
+pub openings_push : (ps : List PlacedPacket) (q : PlacedPacket) → openings (ps ++ q ∷ []) ≡ openings ps ++ cond q.opens (q ∷ []) []
 openings_push ps q = filter-append (λ o. o.opens) ps (q ∷ [])
 
 -- a packet more is a member more, where it is one
-pub members_push : (w : ℕ) (ps : List Placed) (q o : Placed) → members w (ps ++ q ∷ []) o ≡ members w ps o ++ cond (is_member w o q) (q ∷ []) []
+pub members_push : (w : ℕ) (ps : List PlacedPacket) (q o : PlacedPacket) → members w (ps ++ q ∷ []) o ≡ members w ps o ++ cond (is_member w o q) (q ∷ []) []
 members_push w ps q o = filter-append (is_member w o) ps (q ∷ [])
 
 -- a member more is judged against those before it
-pub fates_push : (ms : List Placed) (q : Placed) → fates (ms ++ q ∷ []) ≡ fates ms ++ fate_next (fates ms) q ∷ []
+pub fates_push : (ms : List PlacedPacket) (q : PlacedPacket) → fates (ms ++ q ∷ []) ≡ fates ms ++ fate_next (fates ms) q ∷ []
 fates_push ms q = in_turn_push fate_next ms q
 
 kept_one : (b : Bool) (f : Fate) → map (λ (g : Fate). g.member.packet) (cond b (f ∷ []) []) ≡ cond b (f.member.packet ∷ []) []
@@ -42,7 +42,7 @@ kept_push fs f =
     ∙ ap (λ ps. kept fs ++ ps) (kept_one (is_none f.cause) f)
 
 -- a heap that was whole stays so by the same members, and else is whole with the member more, where it is complete
-pub whole_front_push : (ms : List Placed) (q : Placed)
+pub whole_front_push : (ms : List PlacedPacket) (q : PlacedPacket)
     → whole_front (ms ++ q ∷ []) ≡ option_or (whole_front ms) (cond (is_complete (fates (ms ++ q ∷ []))) (Some (fates (ms ++ q ∷ []))) None)
 whole_front_push ms q =
     let all = fates (ms ++ q ∷ []) in
@@ -52,10 +52,10 @@ whole_front_push ms q =
     ∙ ap (λ fs. option_or (whole_front ms) (cond (is_complete fs) (Some fs) None)) (sym (fates_push ms q))
 
 -- a packet more makes at most one heap whole
-pub whole_heaps_push : (w : ℕ) (ps : List Placed) (q : Placed) → whole_heaps w (ps ++ q ∷ []) ≡ whole_heaps w ps ++ option_to_list (whole_now w (ps ++ q ∷ []))
+pub whole_heaps_push : (w : ℕ) (ps : List PlacedPacket) (q : PlacedPacket) → whole_heaps w (ps ++ q ∷ []) ≡ whole_heaps w ps ++ option_to_list (whole_now w (ps ++ q ∷ []))
 whole_heaps_push w ps q = ap (filter_map (whole_now w)) (fronts_push ps q) ∙ filter_map_push (whole_now w) (fronts ps) (ps ++ q ∷ [])
 
-top_one : (b : Bool) (f : Judged → ℕ) (n : ℕ) (j : Judged) → fold max n (map f (cond b (j ∷ []) [])) ≡ cond b (max n (f j)) n
+top_one : (b : Bool) (f : JudgedHeap → ℕ) (n : ℕ) (j : JudgedHeap) → fold max n (map f (cond b (j ∷ []) [])) ≡ cond b (max n (f j)) n
 top_one true f n j = refl
 top_one false f n j = refl
 
@@ -64,24 +64,24 @@ fold_append n [] ys = refl
 fold_append n (x ∷ xs) ys = fold_append (max n x) xs ys
 
 -- a heap more raises the top, where it is on the grid and not past the guard
-pub above_top_push : (plan : Plan) (js : List Judged) (j : Judged)
+pub above_top_push : (plan : Plan) (js : List JudgedHeap) (j : JudgedHeap)
     → above_top plan (js ++ j ∷ []) ≡ cond (raises j.verdict) (max (above_top plan js) (reach plan j)) (above_top plan js)
 above_top_push plan js j =
-    let raised = filter (λ (i : Judged). raises i.verdict) js in
+    let raised = filter (λ (i : JudgedHeap). raises i.verdict) js in
     let last = cond (raises j.verdict) (j ∷ []) [] in
     ap (λ is. fold max 0 (map (reach plan) is)) (filter-append (λ i. raises i.verdict) js (j ∷ []))
     ∙ ap (fold max 0) (map-append (reach plan) raised last)
     ∙ fold_append 0 (map (reach plan) raised) (map (reach plan) last)
     ∙ top_one (raises j.verdict) (reach plan) (above_top plan js) j
 
-cell_of : (b : Bool) (o : Option Judged) (j : Judged)
+cell_of : (b : Bool) (o : Option JudgedHeap) (j : JudgedHeap)
     → option_map samples_of (option_or o (cond b (Some j) None)) ≡ option_or (option_map samples_of o) (cond b (Some (samples_of j)) None)
 cell_of b (Some i) j = refl
 cell_of true None j = refl
 cell_of false None j = refl
 
 -- a cell that was there stays, and else is the heap more's, where that was used there
-pub cell_in_push : (js : List Judged) (j : Judged) (n t : ℕ)
+pub cell_in_push : (js : List JudgedHeap) (j : JudgedHeap) (n t : ℕ)
     → cell_in (js ++ j ∷ []) n t ≡ option_or (cell_in js n t) (cond (is_used_at n t j.verdict) (Some (samples_of j)) None)
 cell_in_push js j n t =
     ap (option_map samples_of) (find-append (λ i. is_used_at n t i.verdict) js (j ∷ []))
@@ -93,5 +93,5 @@ same_cell None true x h = absurd cc
 same_cell None false x h = refl
 
 -- a cell stays where the heap more was not used there
-pub cell_in_stays : (js : List Judged) (j : Judged) (n t : ℕ) → is_used_at n t j.verdict ≡ false → cell_in (js ++ j ∷ []) n t ≡ cell_in js n t
+pub cell_in_stays : (js : List JudgedHeap) (j : JudgedHeap) (n t : ℕ) → is_used_at n t j.verdict ≡ false → cell_in (js ++ j ∷ []) n t ≡ cell_in js n t
 cell_in_stays js j n t h = cell_in_push js j n t ∙ same_cell (cell_in js n t) (is_used_at n t j.verdict) (samples_of j) h

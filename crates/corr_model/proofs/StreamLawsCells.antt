@@ -14,7 +14,7 @@ use Rattle.corr_model.specs.Packets.{Parts}
 use Rattle.corr_model.specs.Windows.{heard_in, placed_in}
 use Rattle.corr_model.specs.Assembly.{WholeHeap, whole_now}
 use Rattle.corr_model.specs.Tables.{Sight}
-use Rattle.corr_model.specs.Streams.{Judged, stops, grid, reach, raises, above_top, floor_of, is_used_at, verdict_at, heap_verdict, judged_as, judge_next, whole_in, heaps, has_stopped}
+use Rattle.corr_model.specs.Streams.{JudgedHeap, stops, grid, reach, raises, above_top, floor_of, is_used_at, verdict_at, heap_verdict, judged_as, judge_next, whole_in, heaps, has_stopped}
 use Rattle.corr_model.proofs.Turns.{in_turn_keeps, by_pushes, by_pushes_from}
 use Rattle.corr_model.proofs.Pushes.{above_top_push}
 use Rattle.corr_model.proofs.StreamPushes.{whole_in_push, heaps_push, heaps_stay}
@@ -35,12 +35,12 @@ passed true v w n t other h = absurd (other h)
 passed false v w n t other h = (refl, h)
 
 -- a place that no earlier heap was used at, in an accumulation that is not closed
-pub record IsFresh (plan : Plan) (js : List Judged) (n t : ℕ) : Type 0 where
+pub record IsFresh (plan : Plan) (js : List JudgedHeap) (n t : ℕ) : Type 0 where
   pub above : floor_of plan js ≤ n
   pub inside : n < plan.accumulations
   pub fresh : list_any (λ j. is_used_at n t j.verdict) js ≡ false
 
-fresh_at : (plan : Plan) (js : List Judged) (m u n t : ℕ) → verdict_at plan js m u ≡ Used n t → IsFresh plan js n t
+fresh_at : (plan : Plan) (js : List JudgedHeap) (m u n t : ℕ) → verdict_at plan js m u ≡ Used n t → IsFresh plan js n t
 fresh_at plan js m u n t h =
     let first = passed (ltb 0 plan.leap && leb (above_top plan js + plan.leap) m) Wild _ n t (λ e. cc) h in
     let second = passed (leb plan.accumulations m) Beyond _ n t (λ e. cc) first.1 in
@@ -53,7 +53,7 @@ fresh_at plan js m u n t h =
     let here : IsFresh plan js m u = record { above = low; inside = high; fresh = fourth.0 } in
     subst (IsFresh plan js n) place (subst (λ k. IsFresh plan js k u) same here)
 
-fresh_seen : (plan : Plan) (antenna : ℕ) (js : List Judged) (o : Option Sight) (n t : ℕ) → heap_verdict plan antenna js o ≡ Used n t → IsFresh plan js n t
+fresh_seen : (plan : Plan) (antenna : ℕ) (js : List JudgedHeap) (o : Option Sight) (n t : ℕ) → heap_verdict plan antenna js o ≡ Used n t → IsFresh plan js n t
 fresh_seen plan antenna js None n t h = absurd cc
 fresh_seen plan antenna js (Some s) n t h =
     let first = passed (not (eqb s.antenna antenna)) (Foreign s.antenna) _ n t (λ e. cc) h in
@@ -62,7 +62,7 @@ fresh_seen plan antenna js (Some s) n t h =
     fresh_at plan js (grid plan s.timestamp / plan.heaps) (grid plan s.timestamp % plan.heaps) n t third.1
 
 -- a heap that is used at a place is the first one there, and its accumulation is not closed
-pub fresh_used : (plan : Plan) (antenna : ℕ) (js : List Judged) (heap : WholeHeap) (o : Option Sight) (n t : ℕ)
+pub fresh_used : (plan : Plan) (antenna : ℕ) (js : List JudgedHeap) (heap : WholeHeap) (o : Option Sight) (n t : ℕ)
     → is_used_at n t (judged_as plan antenna js heap o).verdict ≡ true → IsFresh plan js n t
 fresh_used plan antenna js heap o n t h =
     let step = passed (stops heap) Stop (heap_verdict plan antenna js o) n t (λ e. cc) (used_is n t (judged_as plan antenna js heap o).verdict h) in
@@ -95,14 +95,14 @@ at_most_one test xs x before first =
 -- at most one heap is used at a place
 pub one_cell : (plan : Plan) (antenna : ℕ) (l : List (List ℕ)) (n t : ℕ) → count_by (λ j. is_used_at n t j.verdict) (heaps plan antenna l) ≤ 1
 one_cell plan antenna l n t =
-    in_turn_keeps (λ js. count_by (λ (j : Judged). is_used_at n t j.verdict) js ≤ 1) (judge_next plan antenna) (omega arith)
+    in_turn_keeps (λ js. count_by (λ (j : JudgedHeap). is_used_at n t j.verdict) js ≤ 1) (judge_next plan antenna) (omega arith)
     (λ js heap before.
-    at_most_one (λ (j : Judged). is_used_at n t j.verdict) js (judge_next plan antenna js heap) before
+    at_most_one (λ (j : JudgedHeap). is_used_at n t j.verdict) js (judge_next plan antenna js heap) before
     (λ used. (fresh_used plan antenna js heap _ n t used).fresh))
     (through_first stops (whole_in plan l))
 
 -- what a string more does to the heaps: nothing, or one is judged by those before it
-pub data HeapsMove (plan : Plan) (antenna : ℕ) (before after : List Judged) : Type 0 where
+pub data HeapsMove (plan : Plan) (antenna : ℕ) (before after : List JudgedHeap) : Type 0 where
   Stay : after ≡ before → HeapsMove plan antenna before after
   Grow : (heap : WholeHeap) → after ≡ before ++ judge_next plan antenna before heap ∷ [] → HeapsMove plan antenna before after
 
@@ -125,24 +125,24 @@ heaps_move plan antenna l b =
     ]
 
 -- the top does not fall
-top_rises : (plan : Plan) (js : List Judged) (j : Judged) → above_top plan js ≤ above_top plan (js ++ j ∷ [])
+top_rises : (plan : Plan) (js : List JudgedHeap) (j : JudgedHeap) → above_top plan js ≤ above_top plan (js ++ j ∷ [])
 top_rises plan js j =
     let push = above_top_push plan js j in
     let more : above_top plan js ≤ cond (raises j.verdict) (max (above_top plan js) (reach plan j)) (above_top plan js) =
     cond_both (raises j.verdict) (max (above_top plan js) (reach plan j)) (above_top plan js) (λ top. above_top plan js ≤ top) (λ e. omega arith) (λ e. omega arith) in
     omega arith
 
-floor_rises : (plan : Plan) (js : List Judged) (j : Judged) → floor_of plan js ≤ floor_of plan (js ++ j ∷ [])
+floor_rises : (plan : Plan) (js : List JudgedHeap) (j : JudgedHeap) → floor_of plan js ≤ floor_of plan (js ++ j ∷ [])
 floor_rises plan js j = let up = top_rises plan js j in omega arith
 
 -- these heaps, and more of which none is used below the bound, with a floor that is not below it
-pub record GrowsAbove (plan : Plan) (bound : ℕ) (before after : List Judged) : Type 0 where
-  pub more : List Judged
+pub record GrowsAbove (plan : Plan) (bound : ℕ) (before after : List JudgedHeap) : Type 0 where
+  pub more : List JudgedHeap
   pub is : after ≡ before ++ more
   pub none : (n t : ℕ) → n < bound → list_any (λ j. is_used_at n t j.verdict) more ≡ false
   pub floor_above : bound ≤ floor_of plan after
 
-grows_on : (plan : Plan) (antenna bound : ℕ) (before js after : List Judged) → GrowsAbove plan bound before js → HeapsMove plan antenna js after → GrowsAbove plan bound before after
+grows_on : (plan : Plan) (antenna bound : ℕ) (before js after : List JudgedHeap) → GrowsAbove plan bound before js → HeapsMove plan antenna js after → GrowsAbove plan bound before after
 grows_on plan antenna bound before js after h (Stay same) = subst (GrowsAbove plan bound before) (sym same) h
 grows_on plan antenna bound before js after h (Grow heap grown) =
     let j = judge_next plan antenna js heap in
@@ -152,8 +152,8 @@ grows_on plan antenna bound before js after h (Grow heap grown) =
       more = h.more ++ j ∷ [];
       is = ap (λ k. k ++ j ∷ []) h.is ∙ append_assoc before h.more (j ∷ []);
       none = λ n t below.
-          list_any-append (λ (i : Judged). is_used_at n t i.verdict) h.more (j ∷ [])
-          ∙ or_from (list_any (λ (i : Judged). is_used_at n t i.verdict) h.more) (is_used_at n t j.verdict || false) (h.none n t below)
+          list_any-append (λ (i : JudgedHeap). is_used_at n t i.verdict) h.more (j ∷ [])
+          ∙ or_from (list_any (λ (i : JudgedHeap). is_used_at n t i.verdict) h.more) (is_used_at n t j.verdict || false) (h.none n t below)
           (or_from (is_used_at n t j.verdict) false
           (false_from_ne_true (is_used_at n t j.verdict) (λ used. let fresh = fresh_used plan antenna js heap _ n t used in let over = fresh.above in omega arith)) refl);
       floor_above = omega arith;

@@ -8,7 +8,7 @@ use Rattle.std.proofs.lemmas.List.Folds.{find-append}
 use Rattle.std.proofs.lemmas.Bool.{cases_Bool, cond-true, cond-false, cond_both, or_parts}
 use Rattle.corr_model.specs.declared.plan.Plan.{Plan}
 use Rattle.corr_model.specs.Lists.{numbers}
-use Rattle.corr_model.specs.Streams.{Judged, floor_of, is_used_at, heaps, ending, floor, samples_of, cell_in, cell, column, taken}
+use Rattle.corr_model.specs.Streams.{JudgedHeap, floor_of, is_used_at, heaps, ending, floor, samples_of, cell_in, cell, column, taken}
 use Rattle.corr_model.proofs.StreamLawsTaken.{ending_stays, heaps_ended, same_after_end, heaps_of_taken}
 use Rattle.corr_model.proofs.StreamLawsCells.{heaps_grow}
 
@@ -29,8 +29,8 @@ pub heaps_after_end : (plan : Plan) (antenna : ℕ) (l rest : List (List ℕ)) �
 heaps_after_end plan antenna l rest h = same_after_end plan (heaps plan antenna) (heaps_ended plan antenna) l rest h
 
 -- these heaps, and more of which none is used below the bound
-pub record AddsAbove (bound : ℕ) (before after : List Judged) : Type 0 where
-  pub more : List Judged
+pub record AddsAbove (bound : ℕ) (before after : List JudgedHeap) : Type 0 where
+  pub more : List JudgedHeap
   pub is : after ≡ before ++ more
   pub none : (n t : ℕ) → n < bound → list_any (λ j. is_used_at n t j.verdict) more ≡ false
 
@@ -60,16 +60,16 @@ pub none_later : (plan : Plan) (antenna : ℕ) (l rest : List (List ℕ)) (n t :
     → list_any (λ j. is_used_at n t j.verdict) (drop (length (heaps plan antenna l)) (heaps plan antenna (l ++ rest))) ≡ false
 none_later plan antenna l rest n t below =
     let h = heaps_add plan antenna l rest in
-    ap (list_any (λ (j : Judged). is_used_at n t j.verdict)) (ap (drop (length (heaps plan antenna l))) h.is ∙ drop-append_seam (heaps plan antenna l) h.more)
+    ap (list_any (λ (j : JudgedHeap). is_used_at n t j.verdict)) (ap (drop (length (heaps plan antenna l))) h.is ∙ drop-append_seam (heaps plan antenna l) h.more)
     ∙ h.none n t below
 
-or_nothing : (o : Option Judged) → option_or o None ≡ o
+or_nothing : (o : Option JudgedHeap) → option_or o None ≡ o
 or_nothing (Some j) = refl
 or_nothing None = refl
 
-cell_stays : (js more : List Judged) (n t : ℕ) → list_any (λ j. is_used_at n t j.verdict) more ≡ false → cell_in (js ++ more) n t ≡ cell_in js n t
+cell_stays : (js more : List JudgedHeap) (n t : ℕ) → list_any (λ j. is_used_at n t j.verdict) more ≡ false → cell_in (js ++ more) n t ≡ cell_in js n t
 cell_stays js more n t none =
-    let test = λ (j : Judged). is_used_at n t j.verdict in
+    let test = λ (j : JudgedHeap). is_used_at n t j.verdict in
     ap (option_map samples_of) (find-append test js more ∙ ap (option_or (find test js)) (none_found test more none) ∙ or_nothing (find test js))
 
 -- a closed cell stays
@@ -87,7 +87,7 @@ pub closed_columns_stay : (plan : Plan) (antenna : ℕ) (l rest : List (List ℕ
 closed_columns_stay plan antenna l rest n below =
     map_same (cell plan antenna (l ++ rest) n) (cell plan antenna l n) (λ t. closed_cells_stay plan antenna l rest n t below) (numbers 0 plan.heaps)
 
-floor_within : (plan : Plan) (js : List Judged) → floor_of plan js ≤ plan.accumulations
+floor_within : (plan : Plan) (js : List JudgedHeap) → floor_of plan js ≤ plan.accumulations
 floor_within plan js = omega arith
 
 -- the floor does not fall

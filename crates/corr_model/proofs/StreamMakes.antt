@@ -8,7 +8,7 @@ use Rattle.corr_model.specs.declared.heap.DropCause.{DropCause}
 use Rattle.corr_model.specs.declared.heap.DropCause.TheVariants.{PastLimit}
 use Rattle.corr_model.specs.Lists.{last_one}
 use Rattle.corr_model.specs.Packets.{Parts, packet_in}
-use Rattle.corr_model.specs.Windows.{Placed, is_within, heard_in, heard, placed, place_next, placed_in}
+use Rattle.corr_model.specs.Windows.{PlacedPacket, is_within, heard_in, heard, placed, place_next, placed_in}
 use Rattle.corr_model.specs.Assembly.{Fate, Standing, Before, Whole, After, standing, members_with, heap_at, whole_with, whole_now}
 use Rattle.corr_model.specs.PacketVerdicts.{Dropped, by_fate, kept_or_dropped, by_standing, outcome_with, next_outcome, heap_made}
 use Rattle.corr_model.specs.Streams.{whole_in}
@@ -26,13 +26,13 @@ made_by_fate None = refl
 made_by_fate (Some f) = made_by_cause f.cause
 
 -- the heap at a member is the one that the member makes
-made_at : (counter : ℕ) (ms : List Placed) (s : Standing) → heap_made (by_standing counter ms s) ≡ heap_at counter s
+made_at : (counter : ℕ) (ms : List PlacedPacket) (s : Standing) → heap_made (by_standing counter ms s) ≡ heap_at counter s
 made_at counter ms Before = made_by_fate _
 made_at counter ms (Whole front) = refl
 made_at counter ms After = refl
 
 -- the heap that is whole at the last packet is the one that it makes
-pub made_with : (window : ℕ) (ps : List Placed) (q : Placed) → heap_made (outcome_with window ps q) ≡ whole_with window ps q
+pub made_with : (window : ℕ) (ps : List PlacedPacket) (q : PlacedPacket) → heap_made (outcome_with window ps q) ≡ whole_with window ps q
 made_with window ps q = made_at q.packet.counter (members_with window ps q) (standing (members_with window ps q))
 
 -- a packet within the limit makes the heap that is whole after it

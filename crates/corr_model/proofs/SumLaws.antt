@@ -1,5 +1,6 @@
 -- Sums over ranges of timestamps, their two antennas turned round, and the lists on which they depend.
-use Rattle.std.proofs.Common.{◌≡◌, ℕ, ◌+◌, ◌-◌, ◌≤◌, ℤ, neg_ℤ, List, [], ◌∷◌, ◌++◌, Option, Some, None, map, take, drop, slice_range, fold, zip, refl, sym, ap, ap₂, ◌∙◌, arith, take-add, drop-drop}
+use Rattle.std.proofs.Common.{◌≡◌, ℕ, ◌+◌, ◌-◌, ◌≤◌, ◌||◌, cond, ℤ, neg_ℤ, List, [], ◌∷◌, ◌++◌, Option, Some, None, map, take, drop, slice_range, fold, zip, refl, sym, ap, ap₂, ◌∙◌, arith, take-add, drop-drop}
+use Rattle.std.specs.Option.{is_none}
 use Rattle.std.proofs.Math.IntN.{*ℤ_comm}
 use Rattle.std.proofs.lemmas.Int.{ints}
 use Rattle.std.proofs.lemmas.List.{map-append, take-map, drop-map}
@@ -142,3 +143,28 @@ pub turned_imaginary : (plan : Plan) (lists : Lists) (n i j c p q from to : ℕ)
     → (part plan lists n j i c q p from to).imaginary ≡ neg_ℤ (part plan lists n i j c p q from to).imaginary
 turned_imaginary plan lists n i j c p q from to =
     ap (λ z. z.imaginary) (part_of_turned plan (column plan i (lists i) n) (column plan j (lists j) n) c p q from to)
+
+none_turned : (x y : Cell) → (is_none x || is_none y) ≡ (is_none y || is_none x)
+none_turned None None = refl
+none_turned None (Some y) = refl
+none_turned (Some x) None = refl
+none_turned (Some x) (Some y) = refl
+
+-- a cell of the two is none, as a number
+abbrev misses : Cell × Cell → ℕ
+misses cells = cond (is_none cells.0 || is_none cells.1) 1 0
+
+misses_turned : (cells : Cell × Cell) → misses (turned cells) ≡ misses cells
+misses_turned cells = ap (λ b. cond b 1 0) (none_turned cells.1 cells.0)
+
+counted_turned : (count : ℕ) (zs : List (Cell × Cell)) → fold (λ n cells. n + misses cells) count (map turned zs) ≡ fold (λ n cells. n + misses cells) count zs
+counted_turned count [] = refl
+counted_turned count (z ∷ zs) =
+    counted_turned (count + misses (turned z)) zs ∙ ap (λ n. fold (λ m cells. m + misses cells) (count + n) zs) (misses_turned z)
+
+-- a missing count stays where the antennas are turned round
+pub missing_turned : (plan : Plan) (lists : Lists) (n i j : ℕ) → missing plan lists n j i ≡ missing plan lists n i j
+missing_turned plan lists n i j =
+    let x = column plan i (lists i) n in
+    let y = column plan j (lists j) n in
+    ap (λ zs. fold (λ m (cells : Cell × Cell). m + misses cells) 0 zs) (zip_turned x y) ∙ counted_turned 0 (zip x y)

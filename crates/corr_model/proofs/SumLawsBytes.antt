@@ -8,12 +8,12 @@ use Rattle.corr_model.specs.declared.pointer.Pointer.{Pointer}
 use Rattle.corr_model.specs.Plans.{Fits, sample_bytes}
 use Rattle.corr_model.specs.Lists.{fronts, through_first, numbers, last_one, passes}
 use Rattle.corr_model.specs.Packets.{Parts, refusal_of, parts_in, packet_in, pointer_count}
-use Rattle.corr_model.specs.Windows.{Placed, is_within, heard_in, heard, place_next, placed, placed_in, is_member, members, opening_of}
+use Rattle.corr_model.specs.Windows.{PlacedPacket, is_within, heard_in, heard, place_next, placed, placed_in, is_member, members, opening_of}
 use Rattle.corr_model.specs.Assembly.{Fate, fate_next, fates, kept, is_complete, whole_front, holds_byte, byte_of, joined, payload_bytes, WholeHeap, heap_at, Whole, After, standing_by, members_with, whole_with, whole_now}
 use Rattle.corr_model.specs.Items.{Group, content_end, content_at, content, item, addressed_content}
 use Rattle.corr_model.specs.Descriptors.{DescribedItem}
 use Rattle.corr_model.specs.Tables.{table_entry, is_voltages, long_enough, samples, sight_of, described_number, readable_descriptors}
-use Rattle.corr_model.specs.Streams.{group_of, whole_in, stops, Judged, judge_next, contents_so_far, heaps, is_used_at, samples_of, cell, column}
+use Rattle.corr_model.specs.Streams.{group_of, whole_in, stops, JudgedHeap, judge_next, contents_so_far, heaps, is_used_at, samples_of, cell, column}
 use Rattle.corr_model.specs.Visibilities.{Lists, part}
 use Rattle.corr_model.proofs.SumLawsBounds.{byte_read, part_small}
 use Rattle.corr_model.proofs.EachElement.{if_some, if_option, unless_option, and_then, mapped, either_some, all_filter_map, all_in_turn, all_fronts, all_find, all_through}
@@ -27,7 +27,7 @@ AreBytes bytes = All (λ b. b < 256) bytes
 abbrev PartsBytes : Parts → Type 0
 PartsBytes p = AreBytes p.payload
 
-abbrev PlacedBytes : Placed → Type 0
+abbrev PlacedBytes : PlacedPacket → Type 0
 PlacedBytes o = PartsBytes o.packet
 
 abbrev FateBytes : Fate → Type 0
@@ -46,7 +46,7 @@ placed_bytes plan l h =
     all_in_turn PartsBytes PlacedBytes (place_next plan.window) (λ before p is. is) (heard plan l)
     (all_filter_map AreBytes PartsBytes (heard_in plan.heap_limit) (heard_bytes plan.heap_limit) (take plan.packet_limit l) (All-take AreBytes plan.packet_limit l h))
 
-members_bytes : (window : ℕ) (ps : List Placed) (o : Option Placed) → All PlacedBytes ps → All PlacedBytes (unwrap_or (option_map (members window ps) o) [])
+members_bytes : (window : ℕ) (ps : List PlacedPacket) (o : Option PlacedPacket) → All PlacedBytes ps → All PlacedBytes (unwrap_or (option_map (members window ps) o) [])
 members_bytes window ps None h = All-nil PlacedBytes
 members_bytes window ps (Some o) h = All-filter (is_member window o) PlacedBytes ps h
 
@@ -70,17 +70,17 @@ whole_at : (counter count : ℕ) (o : Option (List Fate)) → IfSome o (All Fate
 whole_at counter count None h = tt
 whole_at counter count (Some front) h = whole_if counter (length front == count) front h
 
-whole_with_bytes : (window : ℕ) (ps : List Placed) (q : Placed) → All PlacedBytes ps → IfSome (whole_with window ps q) HeapBytes
+whole_with_bytes : (window : ℕ) (ps : List PlacedPacket) (q : PlacedPacket) → All PlacedBytes ps → IfSome (whole_with window ps q) HeapBytes
 whole_with_bytes window ps q h =
     let ms = members_with window ps q in
     let each = all_in_turn PlacedBytes FateBytes fate_next (λ before m is. is) ms (members_bytes window ps (opening_of window ps q) h) in
     whole_at q.packet.counter (length ms) (whole_front ms) (all_find (All FateBytes) is_complete (fronts (fates ms)) (all_fronts FateBytes (fates ms) each))
 
-now_by : (window : ℕ) (ps : List Placed) (o : Option Placed) → All PlacedBytes ps → IfSome (option_and_then (whole_with window ps) o) HeapBytes
+now_by : (window : ℕ) (ps : List PlacedPacket) (o : Option PlacedPacket) → All PlacedBytes ps → IfSome (option_and_then (whole_with window ps) o) HeapBytes
 now_by window ps None h = tt
 now_by window ps (Some q) h = whole_with_bytes window ps q h
 
-whole_now_bytes : (window : ℕ) (ps : List Placed) → All PlacedBytes ps → IfSome (whole_now window ps) HeapBytes
+whole_now_bytes : (window : ℕ) (ps : List PlacedPacket) → All PlacedBytes ps → IfSome (whole_now window ps) HeapBytes
 whole_now_bytes window ps h = now_by window ps (last_one ps) h
 
 whole_bytes : (plan : Plan) (l : List (List ℕ)) → All AreBytes l → All HeapBytes (whole_in plan l)
@@ -113,10 +113,10 @@ sight_bytes (Some t) None s h = All-nil (λ b. b < 256)
 sight_bytes (Some t) (Some a) None h = All-nil (λ b. b < 256)
 sight_bytes (Some t) (Some a) (Some s) h = h
 
-abbrev JudgedBytes : Judged → Type 0
+abbrev JudgedBytes : JudgedHeap → Type 0
 JudgedBytes j = AreBytes (samples_of j)
 
-judged_bytes : (plan : Plan) (antenna : ℕ) (before : List Judged) (heap : WholeHeap) → HeapBytes heap → JudgedBytes (judge_next plan antenna before heap)
+judged_bytes : (plan : Plan) (antenna : ℕ) (before : List JudgedHeap) (heap : WholeHeap) → HeapBytes heap → JudgedBytes (judge_next plan antenna before heap)
 judged_bytes plan antenna before heap h =
     let ds = readable_descriptors plan (contents_so_far before heap) in
     sight_bytes (described_number ds (group_of heap) 0x1600) (described_number ds (group_of heap) 0x4101) (samples plan ds (group_of heap)) (samples_bytes plan ds (group_of heap) h)

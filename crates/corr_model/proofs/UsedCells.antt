@@ -9,7 +9,7 @@ use Rattle.corr_model.specs.declared.verdict.Verdict.{Verdict}
 use Rattle.corr_model.specs.declared.verdict.Verdict.TheVariants.{Used}
 use Rattle.corr_model.specs.Lists.{numbers, through_first}
 use Rattle.corr_model.specs.Assembly.{WholeHeap}
-use Rattle.corr_model.specs.Streams.{Judged, cell_in, column, heaps, is_used_at, judge_next, samples_of, stops, whole_in}
+use Rattle.corr_model.specs.Streams.{JudgedHeap, cell_in, column, heaps, is_used_at, judge_next, samples_of, stops, whole_in}
 use Rattle.corr_model.specs.PacketVerdicts.{is_used, packet_verdicts}
 use Rattle.corr_model.proofs.CountedLists.{numbers_push}
 use Rattle.corr_model.proofs.Turns.{in_turn_keeps}
@@ -68,10 +68,10 @@ total_zero f (suc count) zeros =
     omega arith
 
 -- the cells that are there of one accumulation, and of all
-there_at : ℕ → List Judged → ℕ → ℕ
+there_at : ℕ → List JudgedHeap → ℕ → ℕ
 there_at places js n = total (λ t. cond (is_some (cell_in js n t)) 1 0) places
 
-there_in : Plan → List Judged → ℕ
+there_in : Plan → List JudgedHeap → ℕ
 there_in plan js = total (there_at plan.heaps js) plan.accumulations
 
 never_there : (n t : ℕ) (v : Verdict) → is_used v ≡ false → is_used_at n t v ≡ false
@@ -79,7 +79,7 @@ never_there n t (Used m u) h = absurd cc
 never_there n t other h = refl
 
 -- a heap that is not used fills no cell
-there_stays : (plan : Plan) (js : List Judged) (j : Judged) → is_used j.verdict ≡ false → there_in plan (js ++ j ∷ []) ≡ there_in plan js
+there_stays : (plan : Plan) (js : List JudgedHeap) (j : JudgedHeap) → is_used j.verdict ≡ false → there_in plan (js ++ j ∷ []) ≡ there_in plan js
 unfolding there_at there_in
 there_stays plan js j unused =
     total_same (there_at plan.heaps js) (there_at plan.heaps (js ++ j ∷ [])) plan.accumulations
@@ -96,14 +96,14 @@ other_place m u n t other =
 own_place : (m u : ℕ) → is_used_at m u (Used m u) ≡ true
 own_place m u = and_from (eqb m m) (eqb u u) (eq-eqb m m refl) (eq-eqb u u refl)
 
-none_found : (m u : ℕ) (js : List Judged) → list_any (λ j. is_used_at m u j.verdict) js ≡ false → cell_in js m u ≡ None
+none_found : (m u : ℕ) (js : List JudgedHeap) → list_any (λ j. is_used_at m u j.verdict) js ≡ false → cell_in js m u ≡ None
 none_found m u [] h = refl
 none_found m u (j ∷ js) h =
     let parts = or_parts (is_used_at m u j.verdict) (list_any (λ i. is_used_at m u i.verdict) js) h in
     ap (λ b. option_map samples_of (cond b (Some j) (find (λ i. is_used_at m u i.verdict) js))) parts.0 ∙ none_found m u js parts.1
 
 -- a heap that is used fills one
-there_more : (plan : Plan) (js : List Judged) (j : Judged) (m u : ℕ) → j.verdict ≡ Used m u → m < plan.accumulations → u < plan.heaps
+there_more : (plan : Plan) (js : List JudgedHeap) (j : JudgedHeap) (m u : ℕ) → j.verdict ≡ Used m u → m < plan.accumulations → u < plan.heaps
     → list_any (λ i. is_used_at m u i.verdict) js ≡ false → there_in plan (js ++ j ∷ []) ≡ there_in plan js + 1
 unfolding there_at there_in
 there_more plan js j m u is inside below fresh =
@@ -141,20 +141,20 @@ below_passes plan some = record {
   used = λ n k. lt-ltb (k % plan.heaps) plan.heaps (omega arith);
 }
 
-place_below : (plan : Plan) (antenna : ℕ) (js : List Judged) (heap : WholeHeap) (m u : ℕ) → 1 ≤ plan.heaps → (judge_next plan antenna js heap).verdict ≡ Used m u → u < plan.heaps
+place_below : (plan : Plan) (antenna : ℕ) (js : List JudgedHeap) (heap : WholeHeap) (m u : ℕ) → 1 ≤ plan.heaps → (judge_next plan antenna js heap).verdict ≡ Used m u → u < plan.heaps
 unfolding is_below
 place_below plan antenna js heap m u some is =
     ltb-true u plan.heaps (sym (ap (is_below plan.heaps) is) ∙ judged_passes plan (is_below plan.heaps) (below_passes plan some) antenna js heap)
 
 -- as many heaps are used as cells are there
-AreAsMany : Plan → List Judged → Type 0
+AreAsMany : Plan → List JudgedHeap → Type 0
 AreAsMany plan js = count_by (λ j. is_used j.verdict) js ≡ there_in plan js
 
 many_none : (plan : Plan) → AreAsMany plan []
 unfolding AreAsMany there_at there_in
 many_none plan = sym (total_zero (there_at plan.heaps []) plan.accumulations (λ n. total_zero (λ t. cond (is_some (cell_in [] n t)) 1 0) plan.heaps (λ t. refl)))
 
-many_step : (plan : Plan) (antenna : ℕ) (js : List Judged) (heap : WholeHeap) → 1 ≤ plan.heaps → AreAsMany plan js → (v : Verdict) → (judge_next plan antenna js heap).verdict ≡ v
+many_step : (plan : Plan) (antenna : ℕ) (js : List JudgedHeap) (heap : WholeHeap) → 1 ≤ plan.heaps → AreAsMany plan js → (v : Verdict) → (judge_next plan antenna js heap).verdict ≡ v
     → AreAsMany plan (js ++ judge_next plan antenna js heap ∷ [])
 unfolding AreAsMany
 many_step plan antenna js heap some before (Used m u) is =

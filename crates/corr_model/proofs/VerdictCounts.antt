@@ -13,10 +13,10 @@ use Rattle.corr_model.specs.declared.verdict.Verdict.{Verdict}
 use Rattle.corr_model.specs.declared.verdict.Verdict.TheVariants as verdicts
 use Rattle.corr_model.specs.Lists.{fronts, in_turn, last_one, through_first}
 use Rattle.corr_model.specs.Packets.{Parts, packet_in, parts_in, refusal_of}
-use Rattle.corr_model.specs.Windows.{Placed, heard, is_within, placed, place_next, placed_in}
+use Rattle.corr_model.specs.Windows.{PlacedPacket, heard, is_within, placed, place_next, placed_in}
 use Rattle.corr_model.specs.Assembly.{Fate, Standing, Before, Whole, After, WholeHeap, fates, heap_at, heap_of, kept, members_with, standing, whole_now, whole_with}
 use Rattle.corr_model.specs.Tables.{Sight}
-use Rattle.corr_model.specs.Streams.{Judged, above_top, floor_of, grid, has_stopped, heap_verdict, heaps, is_used_at, judge_next, stops, taken, verdict_at, whole_in}
+use Rattle.corr_model.specs.Streams.{JudgedHeap, above_top, floor_of, grid, has_stopped, heap_verdict, heaps, is_used_at, judge_next, stops, taken, verdict_at, whole_in}
 use Rattle.corr_model.specs.PacketVerdicts.{Dropped, kept_or_dropped, by_fate, by_standing, outcome_with, verdict_by, verdict_of_last, packet_verdict, packet_verdicts}
 use Rattle.corr_model.specs.PacketVerdicts.{is_refused, is_dropped, is_foreign, is_used, is_stale, is_undescribed, is_before_start, is_off_grid, is_wild, is_beyond, is_late, is_twice, is_part, is_stop, is_of_heap}
 use Rattle.corr_model.proofs.Turns.{by_pushes, last_one_push}
@@ -117,7 +117,7 @@ pub record PassesHeaps (plan : Plan) (test : Verdict → Bool) : Type 0 where
   pub twice : test verdicts.Twice ≡ true
   pub used : (n k : ℕ) → test (verdicts.Used n (k % plan.heaps)) ≡ true
 
-at_place : (plan : Plan) (test : Verdict → Bool) → PassesHeaps plan test → (js : List Judged) (n k : ℕ) → test (verdict_at plan js n (k % plan.heaps)) ≡ true
+at_place : (plan : Plan) (test : Verdict → Bool) → PassesHeaps plan test → (js : List JudgedHeap) (n k : ℕ) → test (verdict_at plan js n (k % plan.heaps)) ≡ true
 at_place plan test h js n k =
     let t = k % plan.heaps in
     either test (ltb 0 plan.leap && leb (above_top plan js + plan.leap) n) verdicts.Wild _ h.wild
@@ -125,7 +125,7 @@ at_place plan test h js n k =
     (either test (ltb n (floor_of plan js)) verdicts.Late _ h.late
     (either test (list_any (λ j. is_used_at n t j.verdict) js) verdicts.Twice (verdicts.Used n t) h.twice (h.used n k))))
 
-heap_verdict_passes : (plan : Plan) (test : Verdict → Bool) → PassesHeaps plan test → (antenna : ℕ) (js : List Judged) (o : Option Sight) → test (heap_verdict plan antenna js o) ≡ true
+heap_verdict_passes : (plan : Plan) (test : Verdict → Bool) → PassesHeaps plan test → (antenna : ℕ) (js : List JudgedHeap) (o : Option Sight) → test (heap_verdict plan antenna js o) ≡ true
 heap_verdict_passes plan test h antenna js None = h.undescribed
 heap_verdict_passes plan test h antenna js (Some s) =
     let k = grid plan s.timestamp in
@@ -134,7 +134,7 @@ heap_verdict_passes plan test h antenna js (Some s) =
     (either test (not (eqb ((s.timestamp - plan.start) % plan.step) 0)) verdicts.OffGrid _ h.offgrid (at_place plan test h js (k / plan.heaps) k)))
 
 -- so the verdict on a judged heap passes
-pub judged_passes : (plan : Plan) (test : Verdict → Bool) → PassesHeaps plan test → (antenna : ℕ) (js : List Judged) (heap : WholeHeap) → test (judge_next plan antenna js heap).verdict ≡ true
+pub judged_passes : (plan : Plan) (test : Verdict → Bool) → PassesHeaps plan test → (antenna : ℕ) (js : List JudgedHeap) (heap : WholeHeap) → test (judge_next plan antenna js heap).verdict ≡ true
 judged_passes plan test h antenna js heap =
     let seen = (judge_next plan antenna js heap).seen in
     either test (stops heap) verdicts.Stop (heap_verdict plan antenna js seen) h.stop (heap_verdict_passes plan test h antenna js seen)
@@ -153,18 +153,18 @@ of_heaps_pass plan = record {
   used = λ n k. refl;
 }
 
-by_cause : (js : List Judged) (o : Option DropCause) → is_of_heap (verdict_by js (kept_or_dropped o)) ≡ false
+by_cause : (js : List JudgedHeap) (o : Option DropCause) → is_of_heap (verdict_by js (kept_or_dropped o)) ≡ false
 by_cause js None = refl
 by_cause js (Some cause) = refl
 
 -- a packet that does not make its heap whole has the verdict of none
-unfinished : (js : List Judged) (o : Option Fate) → is_of_heap (verdict_by js (by_fate o)) ≡ false
+unfinished : (js : List JudgedHeap) (o : Option Fate) → is_of_heap (verdict_by js (by_fate o)) ≡ false
 unfinished js None = refl
 unfinished js (Some f) = by_cause js f.cause
 
 -- what a string after an open list brings: judged heaps, and the verdicts on them
 record Brings (plan : Plan) (antenna : ℕ) (l : List (List ℕ)) (b : List ℕ) : Type 0 where
-  more : List Judged
+  more : List JudgedHeap
   judged : heaps plan antenna (l ++ b ∷ []) ≡ heaps plan antenna l ++ more
   said : filter is_of_heap (packet_verdict plan antenna (l ++ b ∷ []) ∷ []) ≡ map (λ j. j.verdict) more
 
@@ -191,7 +191,7 @@ brings_one plan antenna l b heap open_yet whole is =
     }
 
 -- what a heard packet brings, by what its heap is at it
-by_whole : (plan : Plan) (antenna : ℕ) (l : List (List ℕ)) (b : List ℕ) (ms : List Placed) (counter : ℕ) → has_stopped plan l ≡ false → (s : Standing)
+by_whole : (plan : Plan) (antenna : ℕ) (l : List (List ℕ)) (b : List ℕ) (ms : List PlacedPacket) (counter : ℕ) → has_stopped plan l ≡ false → (s : Standing)
     → whole_in plan (l ++ b ∷ []) ≡ whole_in plan l ++ option_to_list (heap_at counter s)
     → packet_verdict plan antenna (l ++ b ∷ []) ≡ verdict_by (heaps plan antenna (l ++ b ∷ [])) (by_standing counter ms s) → Brings plan antenna l b
 by_whole plan antenna l b ms counter open_yet Before whole is =

@@ -11,9 +11,9 @@ use Rattle.corr_model.specs.declared.heap.DropCause.TheVariants.{PastLimit}
 use Rattle.corr_model.specs.declared.verdict.Verdict.TheVariants as verdicts
 use Rattle.corr_model.specs.Lists.{fronts, last_one, passes}
 use Rattle.corr_model.specs.Packets.{Parts, packet_in, parts_in, refusal_of}
-use Rattle.corr_model.specs.Windows.{Placed, heard, heard_in, is_opening, is_within, placed, place_next, placed_in}
+use Rattle.corr_model.specs.Windows.{PlacedPacket, heard, heard_in, is_opening, is_within, placed, place_next, placed_in}
 use Rattle.corr_model.specs.Assembly.{Fate, Standing, Before, Whole, After, fates, heap_at, members_with, standing, whole_now, whole_with}
-use Rattle.corr_model.specs.Streams.{Judged, contents_of, ending, heaps, taken}
+use Rattle.corr_model.specs.Streams.{JudgedHeap, contents_of, ending, heaps, taken}
 use Rattle.corr_model.specs.Tables.{bad_count}
 use Rattle.corr_model.specs.PacketVerdicts.{Part, Dropped, Report, kept_or_dropped, by_fate, by_standing, heap_made, outcome_with, next_outcome, evicted_of, next_evicted, verdict_by, last_outcome, verdict_after, packet_verdict, packet_verdicts, evicts, evicted_count, report_on, report}
 use Rattle.corr_model.proofs.Turns.{fronts_push, last_one_push}
@@ -60,7 +60,7 @@ last_outcome_push plan l b p room is =
     ∙ ap (λ ps. outcome_with window ps next) (sym (placed_push window (heard plan l) p))
 
 by_limit : (plan : Plan) (antenna : ℕ) (l : List (List ℕ)) (b : List ℕ) (p : Parts) → length l < plan.packet_limit → packet_in b ≡ Some p
-    → (within : Bool) → is_within plan.heap_limit p ≡ within → (js : List Judged)
+    → (within : Bool) → is_within plan.heap_limit p ≡ within → (js : List JudgedHeap)
     → cond within (verdict_by js (last_outcome plan.window (placed_in plan (l ++ b ∷ [])))) (verdicts.Dropped PastLimit)
     ≡ verdict_by js (cond within (outcome_with plan.window (placed plan.window (heard plan l ++ p ∷ [])) (place_next plan.window (placed plan.window (heard plan l)) p)) (Dropped PastLimit))
 by_limit plan antenna l b p room h true is js = ap (verdict_by js) (last_outcome_push plan l b p room (heard_by plan.heap_limit b p h is))
@@ -74,7 +74,7 @@ made_none : (o : Option Fate) → heap_made (by_fate o) ≡ None
 made_none None = refl
 made_none (Some f) = made_fate f.cause
 
-made_by : (counter : ℕ) (ms : List Placed) (s : Standing) → heap_made (by_standing counter ms s) ≡ heap_at counter s
+made_by : (counter : ℕ) (ms : List PlacedPacket) (s : Standing) → heap_made (by_standing counter ms s) ≡ heap_at counter s
 made_by counter ms Before = made_none (last_one (fates ms))
 made_by counter ms (Whole front) = refl
 made_by counter ms After = refl
@@ -120,7 +120,7 @@ pub packet_verdicts_of_taken : (plan : Plan) (antenna : ℕ) (l : List (List ℕ
 packet_verdicts_of_taken plan antenna l = ap (λ k. map (packet_verdict plan antenna) (fronts k)) (taken_of_taken plan l)
 
 -- the report on strings that all count, and their heaps
-report_of : Plan → ℕ → List (List ℕ) → List Judged → Report
+report_of : Plan → ℕ → List (List ℕ) → List JudgedHeap → Report
 report_of plan antenna k js =
     report_on (evicted_count plan.window (placed_in plan k)) (bad_count plan (flat_map (λ j. contents_of j.heap) js)) (map (packet_verdict plan antenna) (fronts k))
 

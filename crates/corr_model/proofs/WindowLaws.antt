@@ -6,17 +6,17 @@ use Rattle.std.proofs.lemmas.List.Folds.{list_any-append}
 use Rattle.std.proofs.lemmas.Bool.{eqb-false, ne_eqb, or_parts, or_from, cond-false}
 use Rattle.corr_model.specs.Lists.{last_few}
 use Rattle.corr_model.specs.Packets.{Parts}
-use Rattle.corr_model.specs.Windows.{Placed, has_counter, openings, placed_as, placed}
+use Rattle.corr_model.specs.Windows.{PlacedPacket, has_counter, openings, placed_as, placed}
 use Rattle.corr_model.proofs.Turns.{by_pushes}
 use Rattle.corr_model.proofs.Pushes.{placed_push, openings_push}
 
 -- openings that are numbered in turn from n on
-abbrev pub Numbered : ℕ → List Placed → Type 0
+abbrev pub Numbered : ℕ → List PlacedPacket → Type 0
 Numbered n [] = Unit {0}
 Numbered n (o ∷ os) = (o.openings ≡ n) × Numbered (suc n) os
 
 -- no two of them have one counter
-abbrev pub Apart : List Placed → Type 0
+abbrev pub Apart : List PlacedPacket → Type 0
 Apart [] = Unit {0}
 Apart (o ∷ os) = (list_any (has_counter o.packet.counter) os ≡ false) × Apart os
 
@@ -64,7 +64,7 @@ each_fails test [] h = tt
 each_fails test (x ∷ xs) h = let parts = or_parts (test x) (list_any test xs) h in (parts.0, each_fails test xs parts.1)
 
 -- the numbers of the first n are below the numbers of the others
-pub low_numbers : (n k : ℕ) (os : List Placed) → Numbered k os → AllByRecursion (λ o. (k ≤ o.openings) × (o.openings < k + n)) (take n os)
+pub low_numbers : (n k : ℕ) (os : List PlacedPacket) → Numbered k os → AllByRecursion (λ o. (k ≤ o.openings) × (o.openings < k + n)) (take n os)
 low_numbers zero k os h = tt
 low_numbers (suc n) k [] h = tt
 low_numbers (suc n) k (o ∷ os) h =
@@ -74,7 +74,7 @@ low_numbers (suc n) k (o ∷ os) h =
           (λ r b. let low = b.0 in let high = b.1 in (omega arith, omega arith)) (take n os) (low_numbers n (suc k) os h.1),
     )
 
-pub high_numbers : (n k : ℕ) (os : List Placed) → Numbered k os → AllByRecursion (λ o. k + n ≤ o.openings) (drop n os)
+pub high_numbers : (n k : ℕ) (os : List PlacedPacket) → Numbered k os → AllByRecursion (λ o. k + n ≤ o.openings) (drop n os)
 high_numbers zero k [] h = tt
 high_numbers zero k (o ∷ os) h =
     let first = h.0 in
@@ -83,11 +83,11 @@ high_numbers (suc n) k [] h = tt
 high_numbers (suc n) k (o ∷ os) h =
     each_weaker (λ r. suc k + n ≤ r.openings) (λ r. k + suc n ≤ r.openings) (λ r b. omega arith) (drop n os) (high_numbers n (suc k) os h.1)
 
-numbered_push : (k : ℕ) (os : List Placed) (o : Placed) → Numbered k os → o.openings ≡ k + length os → Numbered k (os ++ o ∷ [])
+numbered_push : (k : ℕ) (os : List PlacedPacket) (o : PlacedPacket) → Numbered k os → o.openings ≡ k + length os → Numbered k (os ++ o ∷ [])
 numbered_push k [] o h is = (omega arith, tt)
 numbered_push k (r ∷ os) o h is = (h.0, numbered_push (suc k) os o h.1 (omega arith))
 
-pub apart_push : (os : List Placed) (o : Placed) → Apart os → list_any (has_counter o.packet.counter) os ≡ false → Apart (os ++ o ∷ [])
+pub apart_push : (os : List PlacedPacket) (o : PlacedPacket) → Apart os → list_any (has_counter o.packet.counter) os ≡ false → Apart (os ++ o ∷ [])
 apart_push [] o h none = (refl, tt)
 apart_push (r ∷ os) o h none =
     let parts = or_parts (has_counter o.packet.counter r) (list_any (has_counter o.packet.counter) os) none in
@@ -98,7 +98,7 @@ apart_push (r ∷ os) o h none =
       apart_push os o h.1 parts.1,
     )
 
-apart_drop : (n : ℕ) (os : List Placed) → Apart os → Apart (drop n os)
+apart_drop : (n : ℕ) (os : List PlacedPacket) → Apart os → Apart (drop n os)
 apart_drop zero os h = h
 apart_drop (suc n) [] h = tt
 apart_drop (suc n) (o ∷ os) h = apart_drop n os h.1
@@ -116,18 +116,18 @@ last_few_push w xs x =
 
 -- the openings are numbered from 1, each packet stands at a place of the list, and no two of the last W openings have
 -- one counter
-pub record IsInOrder (w : ℕ) (ps : List Placed) : Type 0 where
+pub record IsInOrder (w : ℕ) (ps : List PlacedPacket) : Type 0 where
   pub numbers : Numbered 1 (openings ps)
   pub places : AllByRecursion (λ r. r.place < length ps) ps
   pub apart : Apart (last_few w (openings ps))
 
-places_push : (ps : List Placed) (q : Placed) → q.place ≡ length ps → AllByRecursion (λ r. r.place < length ps) ps → AllByRecursion (λ r. r.place < length (ps ++ q ∷ [])) (ps ++ q ∷ [])
+places_push : (ps : List PlacedPacket) (q : PlacedPacket) → q.place ≡ length ps → AllByRecursion (λ r. r.place < length ps) ps → AllByRecursion (λ r. r.place < length (ps ++ q ∷ [])) (ps ++ q ∷ [])
 places_push ps q is h =
     let more = length-append ps (q ∷ []) in
     each_push (λ r. r.place < length (ps ++ q ∷ [])) ps q
     (each_weaker (λ r. r.place < length ps) (λ r. r.place < length (ps ++ q ∷ [])) (λ r b. omega arith) ps h) (omega arith)
 
-order_opens : (w : ℕ) (ps : List Placed) (p : Parts) → list_any (has_counter p.counter) (last_few w (openings ps)) ≡ false → IsInOrder w ps → IsInOrder w (ps ++ placed_as ps p true ∷ [])
+order_opens : (w : ℕ) (ps : List PlacedPacket) (p : Parts) → list_any (has_counter p.counter) (last_few w (openings ps)) ≡ false → IsInOrder w ps → IsInOrder w (ps ++ placed_as ps p true ∷ [])
 order_opens w ps p none h =
     let q = placed_as ps p true in
     record {
@@ -137,7 +137,7 @@ order_opens w ps p none h =
           (subst Apart (last_few_push w (openings ps) q) (apart_drop _ _ (apart_push (last_few w (openings ps)) q h.apart none)));
     }
 
-order_stays : (w : ℕ) (ps : List Placed) (p : Parts) → IsInOrder w ps → IsInOrder w (ps ++ placed_as ps p false ∷ [])
+order_stays : (w : ℕ) (ps : List PlacedPacket) (p : Parts) → IsInOrder w ps → IsInOrder w (ps ++ placed_as ps p false ∷ [])
 order_stays w ps p h =
     let q = placed_as ps p false in
     let same : openings (ps ++ q ∷ []) ≡ openings ps = openings_push ps q ∙ append-nil (openings ps) in
@@ -147,7 +147,7 @@ order_stays w ps p h =
       apart = subst (λ os. Apart (last_few w os)) (sym same) h.apart;
     }
 
-order_step : (w : ℕ) (ps : List Placed) (p : Parts) (b : Bool) → list_any (has_counter p.counter) (last_few w (openings ps)) ≡ b → IsInOrder w ps → IsInOrder w (ps ++ placed_as ps p (not b) ∷ [])
+order_step : (w : ℕ) (ps : List PlacedPacket) (p : Parts) (b : Bool) → list_any (has_counter p.counter) (last_few w (openings ps)) ≡ b → IsInOrder w ps → IsInOrder w (ps ++ placed_as ps p (not b) ∷ [])
 order_step w ps p true e h = order_stays w ps p h
 order_step w ps p false e h = order_opens w ps p e h
 

@@ -10,7 +10,7 @@ use Rattle.corr_model.specs.declared.heap.DropCause.{DropCause}
 use Rattle.corr_model.specs.declared.heap.DropCause.TheVariants.{SizeDiffers, PastSize, Overlap, TooManyPointers}
 use Rattle.corr_model.specs.Lists.{in_turn, fronts, distinct, numbers, last_one}
 use Rattle.corr_model.specs.Packets.{Parts}
-use Rattle.corr_model.specs.Windows.{Placed, end_of, members, opening_of}
+use Rattle.corr_model.specs.Windows.{PlacedPacket, end_of, members, opening_of}
 
 -- two pointers are one: mode, id and value agree
 abbrev pub are_same : Pointer → Pointer → Bool
@@ -47,7 +47,7 @@ drop_cause kept p =
 
 -- a member, and why it is not kept, if it is not
 pub record Fate : Type 0 where
-  pub member : Placed
+  pub member : PlacedPacket
   pub cause : Option DropCause
 
 -- the packets that were kept
@@ -55,11 +55,11 @@ abbrev pub kept : List Fate → List Parts
 kept fates = map (λ f. f.member.packet) (filter (λ f. is_none f.cause) fates)
 
 -- a member judged against those kept before it
-abbrev pub fate_next : List Fate → Placed → Fate
+abbrev pub fate_next : List Fate → PlacedPacket → Fate
 fate_next before q = record { member = q; cause = drop_cause (kept before) q.packet }
 
 -- the members in order, each judged against those kept before it
-abbrev pub fates : List Placed → List Fate
+abbrev pub fates : List PlacedPacket → List Fate
 fates ms = in_turn fate_next ms
 
 -- the first size that one of these packets says
@@ -81,7 +81,7 @@ abbrev pub is_complete : List Fate → Bool
 is_complete fates = adds_up (said_size (kept fates)) (payload_bytes (kept fates))
 
 -- the members up to and including the first at which the heap is whole, if it becomes whole
-abbrev pub whole_front : List Placed → Option (List Fate)
+abbrev pub whole_front : List PlacedPacket → Option (List Fate)
 whole_front ms = find is_complete (fronts (fates ms))
 
 -- the packet's byte range holds byte k of the heap
@@ -119,11 +119,11 @@ standing_by count None = Before
 standing_by count (Some front) = if length front == count then Whole front else After
 
 -- what the last of these members is to their heap
-abbrev pub standing : List Placed → Standing
+abbrev pub standing : List PlacedPacket → Standing
 standing ms = standing_by (length ms) (whole_front ms)
 
 -- of these packets, the members of the heap of which q is one; none where q is of no heap
-abbrev pub members_with : ℕ → List Placed → Placed → List Placed
+abbrev pub members_with : ℕ → List PlacedPacket → PlacedPacket → List PlacedPacket
 members_with window ps q = unwrap_or (option_map (members window ps) (opening_of window ps q)) []
 
 -- the heap of this counter, where it is whole at just this member
@@ -133,13 +133,13 @@ heap_at counter (Whole front) = Some (heap_of counter (kept front))
 heap_at counter After = None
 
 -- the heap that is whole at q, the last of these packets, if one is
-abbrev pub whole_with : ℕ → List Placed → Placed → Option WholeHeap
+abbrev pub whole_with : ℕ → List PlacedPacket → PlacedPacket → Option WholeHeap
 whole_with window ps q = heap_at q.packet.counter (standing (members_with window ps q))
 
 -- the heap that is whole at the last of these packets, if one is
-abbrev pub whole_now : ℕ → List Placed → Option WholeHeap
+abbrev pub whole_now : ℕ → List PlacedPacket → Option WholeHeap
 whole_now window ps = option_and_then (whole_with window ps) (last_one ps)
 
 -- the whole heaps in the order of the packets at which they are whole
-abbrev pub whole_heaps : ℕ → List Placed → List WholeHeap
+abbrev pub whole_heaps : ℕ → List PlacedPacket → List WholeHeap
 whole_heaps window ps = filter_map (whole_now window) (fronts ps)

@@ -7,7 +7,7 @@ use Rattle.corr_model.specs.Visibilities.{Complex, part_of, none_yet}
 use Rattle.corr_model.specs.Outputs.{packets_of}
 use Rattle.corr_model.specs.Streams.{contents_of}
 use Rattle.corr_model.specs.Assembly.{pointers_of}
-use Rattle.corr_model.specs.Examples.{small_plan, complex, voltage_heap}
+use Rattle.corr_model.specs.Examples.{small_plan, complex, voltage_heap, first_packet, second_samples, other_samples}
 
 -- samples whose every part is −128
 abbrev pub full_scale : List ℕ
@@ -65,3 +65,8 @@ own_contents p = contents_of (record { counter = p.counter; pointers = pointers_
 -- a heap of so many bytes in packets of 64: of each its offset and its length
 abbrev pub cut : ℕ → List (ℕ × ℕ)
 cut size = map (λ p. (p.offset, length p.payload)) (spelled (packets_of narrow_plan 2 [] (replicate size 7)))
+
+-- antenna 0 with a heap at 0, and antenna 1 with heaps at 0 and at 1
+abbrev pub other_heap_lost : ℕ → List (List ℕ)
+other_heap_lost antenna =
+    if antenna == 0 then first_packet ∷ [] else voltage_heap 1 1 0 other_samples ∷ voltage_heap 2 1 1 second_samples ∷ []

@@ -9,7 +9,7 @@ use Rattle.corr_model.specs.Descriptors.{DescribedItem, immediate, addressed, wo
 use Rattle.corr_model.specs.Tables.{item_type_of, scalar, voltages}
 use Rattle.corr_model.specs.Examples.{small_plan, example_packet, first_packet, second_samples, voltage_heap, with_bytes}
 use Rattle.corr_model.specs.ExamplesOutput.{missing_bytes, timestamp_bytes}
-use Rattle.corr_model.specs.ExamplesVerdicts.{descriptor_heap}
+use Rattle.corr_model.specs.ExamplesVerdicts.{descriptor_heap, self_described}
 
 -- the name `missing`
 abbrev pub missing_name : List ℕ
@@ -133,3 +133,15 @@ shared_offsets = record {
       ∷ [];
   payload = 10 ∷ 11 ∷ 12 ∷ 13 ∷ [];
 }
+
+-- the voltages described with two channels, and then a heap that brings its own three descriptors with its samples
+abbrev pub wider_then_own : List (List ℕ)
+wider_then_own = descriptor_heap 7 (descriptor_bytes wider_voltages ∷ []) ∷ self_described ∷ []
+
+-- `missing` with no dimension and no name
+abbrev pub missing_bare : DescribedItem
+missing_bare = record missing_three { shape = []; name = [] }
+
+-- a dimension of six bytes, all different
+abbrev pub long_dimension : List ℕ
+long_dimension = 0 ∷ 1 ∷ 2 ∷ 3 ∷ 4 ∷ 5 ∷ 6 ∷ []

@@ -3,10 +3,14 @@ use Rattle.std.specs.Prelude.{ℕ, Bool, false, List, [], ◌∷◌, ◌++◌, l
 use Rattle.std.specs.List.{flat_map, zip}
 use Rattle.corr_model.specs.declared.plan.Plan.{Plan}
 use Rattle.corr_model.specs.declared.pointer.Pointer.{Pointer}
+use Rattle.corr_model.specs.declared.pointer.Refusal.TheVariants.{Short}
+use Rattle.corr_model.specs.declared.heap.DropCause.TheVariants.{Overlap}
+use Rattle.corr_model.specs.declared.verdict.Verdict.{Verdict}
+use Rattle.corr_model.specs.declared.verdict.Verdict.TheVariants as verdict
 use Rattle.corr_model.specs.Lists.{numbers}
 use Rattle.corr_model.specs.Windows.{placed_in}
 use Rattle.corr_model.specs.Descriptors.{DescribedItem, immediate, addressed, descriptor_bytes}
-use Rattle.corr_model.specs.Tables.{scalar, voltages, is_bad_after}
+use Rattle.corr_model.specs.Tables.{item_type_of, scalar, voltages, is_bad_after}
 use Rattle.corr_model.specs.PacketVerdicts.{Report, next_evicted}
 use Rattle.corr_model.specs.Examples.{small_plan, example_packet, voltage_heap, voltage_pointers, descriptor_pointers, stop_heap, first_packet, first_samples, second_samples}
 
@@ -137,3 +141,58 @@ evicted_in_turn plan l = map (λ q. next_evicted plan.window (take q.place (plac
 -- a stop heap that brings a descriptor of one byte, which is none
 abbrev pub stop_with_descriptor : ℕ → List ℕ
 stop_with_descriptor counter = example_packet counter (Some 1) 0 (immediate 6 2 ∷ addressed 5 0 ∷ []) (9 ∷ [])
+
+-- a heap with the descriptors of these items, and then a heap at 0 of antenna 0
+abbrev pub described_as : List DescribedItem → List (List ℕ)
+described_as items = descriptor_heap 7 (map descriptor_bytes items) ∷ first_packet ∷ []
+
+-- an item of this id, of one signed number of 48 bits
+abbrev pub signed_scalar : ℕ → DescribedItem
+signed_scalar id = record (scalar id) { types = item_type_of 105 48 ∷ [] }
+
+-- two accumulations, from a timestamp that is no multiple of the step
+abbrev pub odd_plan : Plan
+odd_plan = record small_plan { start = 101; step = 4; accumulations = 2 }
+
+-- a heap at 0 of antenna 0 that says immediate voltages before the addressed ones
+abbrev pub immediate_first : List ℕ
+immediate_first = with_pointers (immediate 0x4300 0 ∷ voltage_pointers 0 0)
+
+-- one verdict of each kind
+abbrev pub each_verdict : List Verdict
+each_verdict =
+    verdict.Refused Short
+    ∷ verdict.Dropped Overlap
+    ∷ verdict.Stale
+    ∷ verdict.Part
+    ∷ verdict.Stop
+    ∷ verdict.Undescribed
+    ∷ verdict.Foreign 1
+    ∷ verdict.BeforeStart
+    ∷ verdict.OffGrid
+    ∷ verdict.Wild
+    ∷ verdict.Beyond
+    ∷ verdict.Late
+    ∷ verdict.Twice
+    ∷ verdict.Used 0 1
+    ∷ []
+
+-- the report on these with so many heaps evicted and so many bad descriptors
+abbrev pub one_of_each : ℕ → ℕ → Report
+one_of_each evicted baddesc = record {
+  taken = 14;
+  refused = 1;
+  dropped = 1;
+  stale = 1;
+  evicted = evicted;
+  baddesc = baddesc;
+  undescribed = 1;
+  foreign = 1;
+  before = 1;
+  offgrid = 1;
+  wild = 1;
+  beyond = 1;
+  late = 1;
+  twice = 1;
+  used = 1;
+}

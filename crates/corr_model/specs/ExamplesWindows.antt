@@ -6,10 +6,10 @@ use Rattle.corr_model.specs.declared.heap.DropCause.{DropCause}
 use Rattle.corr_model.specs.Lists.{numbers}
 use Rattle.corr_model.specs.Descriptors.{immediate, addressed}
 use Rattle.corr_model.specs.Windows.{openings, members, placed_in}
-use Rattle.corr_model.specs.Assembly.{Fate, fates, kept}
+use Rattle.corr_model.specs.Assembly.{Fate, WholeHeap, fates, kept}
 use Rattle.corr_model.specs.Streams.{whole_in}
 use Rattle.corr_model.specs.LiveHeaps.{LiveHeap}
-use Rattle.corr_model.specs.Examples.{small_plan, example_packet, voltage_pointers, first_packet, both_heaps, one_heap}
+use Rattle.corr_model.specs.Examples.{small_plan, example_packet, voltage_pointers, first_packet, first_samples, both_heaps, one_heap}
 
 -- a packet without pointers of the heap
 abbrev pub piece : ℕ → Option ℕ → ℕ → List ℕ → List ℕ
@@ -165,3 +165,7 @@ first_heap = record (opened_heap 1) {
 -- the heap of the first three of the reversed pieces
 abbrev pub three_pieces_heap : LiveHeap
 three_pieces_heap = record (opened_heap 1) { ending = 4; byte = byte_there (None ∷ Some 2 ∷ Some 3 ∷ Some 0 ∷ []) }
+
+-- the whole heap of the first packet of antenna 0
+abbrev pub first_whole : WholeHeap
+first_whole = record { counter = 1; pointers = voltage_pointers 0 0; payload = first_samples }

@@ -10,6 +10,7 @@ pub mod Tables
 pub mod Streams
 pub mod LiveHeaps
 pub mod PacketVerdicts
+pub mod Reports
 pub mod WindowSteps
 pub mod Visibilities
 pub mod Outputs

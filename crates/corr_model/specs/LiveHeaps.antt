@@ -5,7 +5,7 @@ use Rattle.std.specs.Prelude.{◌≡◌, ℕ, ◌-◌, max, Bool, List, [], ◌�
 use Rattle.corr_model.specs.declared.pointer.Pointer.{Pointer}
 use Rattle.corr_model.specs.Lists.{last_few}
 use Rattle.corr_model.specs.Packets.{Parts}
-use Rattle.corr_model.specs.Windows.{Placed, end_of, openings, members, placed}
+use Rattle.corr_model.specs.Windows.{PlacedPacket, end_of, openings, members, placed}
 use Rattle.corr_model.specs.Assembly.{Fate, kept, fates, whole_front, holds_byte, said_size, pointers_of}
 
 -- a heap that is being put together, as it is kept: its counter, the size that was said, the greatest end, the byte at
@@ -27,15 +27,15 @@ abbrev pub byte_brought : List Parts → ℕ → Option ℕ
 byte_brought ps k = option_map (λ p. slice_index p.payload (k - p.offset)) (find (holds_byte k) ps)
 
 -- the members up to and including the one at which the heap is whole, or all of them where it is not
-abbrev pub fates_shown : List Placed → List Fate
+abbrev pub fates_shown : List PlacedPacket → List Fate
 fates_shown ms = unwrap_or (whole_front ms) (fates ms)
 
 -- the packets that a heap of these members keeps
-abbrev pub kept_shown : List Placed → List Parts
+abbrev pub kept_shown : List PlacedPacket → List Parts
 kept_shown ms = kept (fates_shown ms)
 
 -- the heap stands for these members: what it shows is that of the packets that are kept
-pub record HeapStandsFor (h : LiveHeap) (ms : List Placed) : Type 0 where
+pub record HeapStandsFor (h : LiveHeap) (ms : List PlacedPacket) : Type 0 where
   pub size : h.size ≡ said_size (kept_shown ms)
   pub ending : h.ending ≡ greatest_end (kept_shown ms)
   pub bytes : (k : ℕ) → h.byte k ≡ byte_brought (kept_shown ms) k
@@ -43,12 +43,12 @@ pub record HeapStandsFor (h : LiveHeap) (ms : List Placed) : Type 0 where
   pub whole : h.whole ≡ is_some (whole_front ms)
 
 -- the heap has the counter of the packet that opened it, and stands for that heap's members
-pub record IsHeapOf (window : ℕ) (ps : List Placed) (h : LiveHeap) (o : Placed) : Type 0 where
+pub record IsHeapOf (window : ℕ) (ps : List PlacedPacket) (h : LiveHeap) (o : PlacedPacket) : Type 0 where
   pub counter : h.counter ≡ o.packet.counter
   pub members : HeapStandsFor h (members window ps o)
 
 -- a heap for each of these openings, in their order
-abbrev pub AreHeapsOf : ℕ → List Placed → List LiveHeap → List Placed → Type 0
+abbrev pub AreHeapsOf : ℕ → List PlacedPacket → List LiveHeap → List PlacedPacket → Type 0
 AreHeapsOf window ps [] [] = Unit {0}
 AreHeapsOf window ps [] (o ∷ os) = ⊥
 AreHeapsOf window ps (h ∷ hs) [] = ⊥

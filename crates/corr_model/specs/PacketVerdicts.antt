@@ -9,9 +9,9 @@ use Rattle.corr_model.specs.declared.verdict.Verdict.{Verdict}
 use Rattle.corr_model.specs.declared.verdict.Verdict.TheVariants as verdicts
 use Rattle.corr_model.specs.Lists.{fronts, last_one, passes}
 use Rattle.corr_model.specs.Packets.{Parts, refusal_of, parts_in}
-use Rattle.corr_model.specs.Windows.{Placed, is_within, openings, is_opening, place_next, members, placed, placed_in}
+use Rattle.corr_model.specs.Windows.{PlacedPacket, is_within, openings, is_opening, place_next, members, placed, placed_in}
 use Rattle.corr_model.specs.Assembly.{Fate, kept, fates, whole_front, WholeHeap, heap_of, Standing, Before, Whole, After, standing, members_with}
-use Rattle.corr_model.specs.Streams.{Judged, described_by, heaps, taken}
+use Rattle.corr_model.specs.Streams.{JudgedHeap, described_by, heaps, taken}
 use Rattle.corr_model.specs.Tables.{bad_count}
 
 -- what a packet is to its heap
@@ -32,17 +32,17 @@ by_fate None = Part
 by_fate (Some fate) = kept_or_dropped fate.cause
 
 -- what the last of these members is to their heap, by its standing
-abbrev pub by_standing : ℕ → List Placed → Standing → Outcome
+abbrev pub by_standing : ℕ → List PlacedPacket → Standing → Outcome
 by_standing counter ms Before = by_fate (last_one (fates ms))
 by_standing counter ms (Whole front) = Makes (heap_of counter (kept front))
 by_standing counter ms After = Stale
 
 -- what the last of these members is to their heap, which has this counter
-abbrev pub member_outcome : ℕ → List Placed → Outcome
+abbrev pub member_outcome : ℕ → List PlacedPacket → Outcome
 member_outcome counter ms = by_standing counter ms (standing ms)
 
 -- what q, the last of these heard packets, is to its heap
-abbrev pub outcome_with : ℕ → List Placed → Placed → Outcome
+abbrev pub outcome_with : ℕ → List PlacedPacket → PlacedPacket → Outcome
 outcome_with window ps q = member_outcome q.packet.counter (members_with window ps q)
 
 -- what a packet is after these heard packets: dropped past the limit, else what it is to its heap
@@ -58,31 +58,31 @@ heap_made Stale = None
 heap_made (Dropped cause) = None
 
 -- the opening that has to leave the window at the next one: the one W openings before it, if there are so many
-abbrev pub leaving : ℕ → List Placed → Option Placed
+abbrev pub leaving : ℕ → List PlacedPacket → Option PlacedPacket
 leaving window before = if nat_lt (length (openings before)) window then None else slice_get (openings before) (length (openings before) - window)
 
 -- after these packets, the counter of the heap that an opening evicts: that of the heap that leaves, where it is not whole
-abbrev pub evicted_of : ℕ → List Placed → Option ℕ
+abbrev pub evicted_of : ℕ → List PlacedPacket → Option ℕ
 evicted_of window before = option_and_then (λ o. if is_some (whole_front (members window before o)) then None else Some o.packet.counter) (leaving window before)
 
 -- the counter of the heap that a heard packet evicts, where it opens a heap and the heap that leaves is not whole
-abbrev pub next_evicted : ℕ → List Placed → Parts → Option ℕ
+abbrev pub next_evicted : ℕ → List PlacedPacket → Parts → Option ℕ
 next_evicted window before p = if is_opening window before p then evicted_of window before else None
 
 -- the verdict of the heap that was judged last
-abbrev pub verdict_of_last : Option Judged → Verdict
+abbrev pub verdict_of_last : Option JudgedHeap → Verdict
 verdict_of_last None = verdicts.Part
 verdict_of_last (Some j) = j.verdict
 
 -- the verdict of a packet by what it is to its heap; where it makes the heap whole, that is the last of the judged heaps
-abbrev pub verdict_by : List Judged → Outcome → Verdict
+abbrev pub verdict_by : List JudgedHeap → Outcome → Verdict
 verdict_by js Part = verdicts.Part
 verdict_by js (Makes heap) = verdict_of_last (last_one js)
 verdict_by js Stale = verdicts.Stale
 verdict_by js (Dropped cause) = verdicts.Dropped cause
 
 -- what the last of these heard packets is to its heap
-abbrev pub last_outcome : ℕ → List Placed → Outcome
+abbrev pub last_outcome : ℕ → List PlacedPacket → Outcome
 last_outcome window ps = unwrap_or (option_map (outcome_with window ps) (last_one ps)) Part
 
 -- the verdict of the last string of these, which has this refusal, if it has one: refused, or dropped past the limit, or
@@ -102,11 +102,11 @@ abbrev pub packet_verdicts : Plan → ℕ → List (List ℕ) → List Verdict
 packet_verdicts plan antenna l = map (packet_verdict plan antenna) (fronts (taken plan l))
 
 -- the last of these heard packets opens a heap, and the heap that leaves is not whole
-abbrev pub evicts : ℕ → List Placed → Bool
+abbrev pub evicts : ℕ → List PlacedPacket → Bool
 evicts window ps = passes (λ q. q.opens && is_some (evicted_of window (take q.place ps))) (last_one ps)
 
 -- the number of heaps that were evicted while they were not whole
-abbrev pub evicted_count : ℕ → List Placed → ℕ
+abbrev pub evicted_count : ℕ → List PlacedPacket → ℕ
 evicted_count window ps = count_by (evicts window) (fronts ps)
 
 -- what is reported of a stream: the number of strings that counted, of heaps that were evicted and not whole, of bad

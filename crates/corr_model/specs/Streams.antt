@@ -32,7 +32,7 @@ abbrev pub stops : WholeHeap → Bool
 stops heap = passes (λ n. n == 2) (number_item (group_of heap) 6)
 
 -- a whole heap, what it says where it is readable, and its verdict
-pub record Judged : Type 0 where
+pub record JudgedHeap : Type 0 where
   pub heap : WholeHeap
   pub seen : Option Sight
   pub verdict : Verdict
@@ -42,7 +42,7 @@ abbrev pub grid : Plan → ℕ → ℕ
 grid plan timestamp = (timestamp - plan.start) / plan.step
 
 -- one more than the accumulation of a heap on the grid, whatever became of it
-abbrev pub reach : Plan → Judged → ℕ
+abbrev pub reach : Plan → JudgedHeap → ℕ
 reach plan j = unwrap_or (option_map (λ s. grid plan s.timestamp / plan.heaps + 1) j.seen) 0
 
 -- the verdict is Beyond, Late, Twice or Used: the heap counts for the greatest accumulation
@@ -54,11 +54,11 @@ raises (Used n t) = true
 raises other = false
 
 -- one more than the greatest accumulation of the heaps that were Beyond, Late, Twice or Used, or 0 before any
-abbrev pub above_top : Plan → List Judged → ℕ
+abbrev pub above_top : Plan → List JudgedHeap → ℕ
 above_top plan js = fold max 0 (map (reach plan) (filter (λ j. raises j.verdict) js))
 
 -- the floor by these heaps: one more than the greatest accumulation, less the lag, and at most all accumulations
-abbrev pub floor_of : Plan → List Judged → ℕ
+abbrev pub floor_of : Plan → List JudgedHeap → ℕ
 floor_of plan js = min plan.accumulations (above_top plan js - plan.lag)
 
 -- used at accumulation n and place t
@@ -68,7 +68,7 @@ is_used_at n t other = false
 
 -- the verdict at accumulation n and place t by the earlier heaps, the first that applies: Wild past the guard, Beyond
 -- the last, Late below the floor, Twice where one was used there, else Used
-abbrev pub verdict_at : Plan → List Judged → ℕ → ℕ → Verdict
+abbrev pub verdict_at : Plan → List JudgedHeap → ℕ → ℕ → Verdict
 verdict_at plan js n t =
     if nat_lt 0 plan.leap && nat_le (above_top plan js + plan.leap) n then Wild
     else (if nat_le plan.accumulations n then Beyond
@@ -78,7 +78,7 @@ verdict_at plan js n t =
 
 -- the verdict of a heap that says this, the first that applies: Undescribed, Foreign, BeforeStart, OffGrid, else that
 -- of its accumulation and place
-abbrev pub heap_verdict : Plan → ℕ → List Judged → Option Sight → Verdict
+abbrev pub heap_verdict : Plan → ℕ → List JudgedHeap → Option Sight → Verdict
 heap_verdict plan antenna js None = Undescribed
 heap_verdict plan antenna js (Some s) =
     if not (s.antenna == antenna) then Foreign s.antenna
@@ -87,7 +87,7 @@ heap_verdict plan antenna js (Some s) =
     else verdict_at plan js (grid plan s.timestamp / plan.heaps) (grid plan s.timestamp % plan.heaps)))
 
 -- a heap that says this: Stop for a stop heap, else its verdict by the earlier ones
-abbrev pub judged_as : Plan → ℕ → List Judged → WholeHeap → Option Sight → Judged
+abbrev pub judged_as : Plan → ℕ → List JudgedHeap → WholeHeap → Option Sight → JudgedHeap
 judged_as plan antenna js heap seen = record {
   heap = heap;
   seen = seen;
@@ -95,19 +95,19 @@ judged_as plan antenna js heap seen = record {
 }
 
 -- the contents of the descriptors of these heaps, in order
-abbrev pub described_by : List Judged → List (List ℕ)
+abbrev pub described_by : List JudgedHeap → List (List ℕ)
 described_by js = flat_map (λ j. contents_of j.heap) js
 
 -- the descriptors so far: those of the earlier heaps and its own
-abbrev pub contents_so_far : List Judged → WholeHeap → List (List ℕ)
+abbrev pub contents_so_far : List JudgedHeap → WholeHeap → List (List ℕ)
 contents_so_far js heap = described_by js ++ contents_of heap
 
 -- a whole heap with what it says by the descriptors so far, its own included, and its verdict by the earlier heaps
-abbrev pub judge_next : Plan → ℕ → List Judged → WholeHeap → Judged
+abbrev pub judge_next : Plan → ℕ → List JudgedHeap → WholeHeap → JudgedHeap
 judge_next plan antenna js heap = judged_as plan antenna js heap (sight plan (readable_descriptors plan (contents_so_far js heap)) (group_of heap))
 
 -- the whole heaps up to and including the first stop heap, each with its verdict
-abbrev pub heaps : Plan → ℕ → List (List ℕ) → List Judged
+abbrev pub heaps : Plan → ℕ → List (List ℕ) → List JudgedHeap
 heaps plan antenna l = in_turn (judge_next plan antenna) (through_first stops (whole_in plan l))
 
 -- the table of a list: its entries stand for the descriptors of the list's judged heaps
@@ -137,11 +137,11 @@ abbrev pub floor : Plan → ℕ → List (List ℕ) → Bool → ℕ
 floor plan antenna l ended = if ended || is_some (ending plan l) then plan.accumulations else floor_of plan (heaps plan antenna l)
 
 -- the samples of a readable heap
-abbrev pub samples_of : Judged → List ℕ
+abbrev pub samples_of : JudgedHeap → List ℕ
 samples_of j = unwrap_or (option_map (λ s. s.samples) j.seen) []
 
 -- the samples of the heap among these that was used at accumulation n and place t, or none
-abbrev pub cell_in : List Judged → ℕ → ℕ → Option (List ℕ)
+abbrev pub cell_in : List JudgedHeap → ℕ → ℕ → Option (List ℕ)
 cell_in js n t = option_map samples_of (find (λ j. is_used_at n t j.verdict) js)
 
 -- the samples of the heap that was used at accumulation n and place t, or none

@@ -4,12 +4,12 @@ use Rattle.std.specs.Prelude.{◌≡◌, ℕ, ◌==◌, if◌then◌else◌, Lis
 use Rattle.std.specs.List.{position}
 use Rattle.corr_model.specs.Lists.{last_few}
 use Rattle.corr_model.specs.Packets.{Parts}
-use Rattle.corr_model.specs.Windows.{Placed, openings, placed, place_next}
+use Rattle.corr_model.specs.Windows.{PlacedPacket, openings, placed, place_next}
 use Rattle.corr_model.specs.Assembly.{members_with}
 use Rattle.corr_model.specs.LiveHeaps.{LiveHeap, HeapStandsFor, WindowStandsFor}
 
 -- the heap counters of the last W openings
-abbrev pub last_counters : ℕ → List Placed → List ℕ
+abbrev pub last_counters : ℕ → List PlacedPacket → List ℕ
 last_counters window ps = map (λ o. o.packet.counter) (last_few window (openings ps))
 
 -- the place of the first heap with this counter, if one has it
@@ -25,16 +25,16 @@ abbrev pub first_unfinished : ℕ → List LiveHeap → Option ℕ
 first_unfinished window hs = if length hs == window then option_and_then unfinished (slice_get hs 0) else None
 
 -- the packet, placed after these
-abbrev pub placed_next : ℕ → List Parts → Parts → Placed
+abbrev pub placed_next : ℕ → List Parts → Parts → PlacedPacket
 placed_next window h p = place_next window (placed window h) p
 
 -- the members of the packet's heap up to and including the packet
-abbrev pub members_now : ℕ → List Parts → Parts → List Placed
+abbrev pub members_now : ℕ → List Parts → Parts → List PlacedPacket
 members_now window h p = members_with window (placed window (h ++ p ∷ [])) (placed_next window h p)
 
 -- the packet is one member more of the heap at place i, and of no other heap that is kept
 pub record Joins (window : ℕ) (hs : List LiveHeap) (h : List Parts) (p : Parts) (i : ℕ) (e : LiveHeap) : Type 0 where
-  pub before : List Placed
+  pub before : List PlacedPacket
   pub stood : HeapStandsFor e before
   pub members : members_now window h p ≡ before ++ placed_next window h p ∷ []
   pub stands : (now : LiveHeap) → now.counter ≡ p.counter → HeapStandsFor now (members_now window h p)

@@ -29,26 +29,26 @@ abbrev pub heard : Plan → List (List ℕ) → List Parts
 heard plan l = filter_map (heard_in plan.heap_limit) (take plan.packet_limit l)
 
 -- a heard packet with its place among them, whether it opens a heap, and the number of openings up to and including it
-pub record Placed : Type 0 where
+pub record PlacedPacket : Type 0 where
   pub place : ℕ
   pub packet : Parts
   pub opens : Bool
   pub openings : ℕ
 
 -- the packets that open a heap, in order
-abbrev pub openings : List Placed → List Placed
+abbrev pub openings : List PlacedPacket → List PlacedPacket
 openings ps = filter (λ o. o.opens) ps
 
 -- the packet has this heap counter
-abbrev pub has_counter : ℕ → Placed → Bool
+abbrev pub has_counter : ℕ → PlacedPacket → Bool
 has_counter counter o = o.packet.counter == counter
 
 -- a packet opens a heap where its counter is not among those of the last W openings before it
-abbrev pub is_opening : ℕ → List Placed → Parts → Bool
+abbrev pub is_opening : ℕ → List PlacedPacket → Parts → Bool
 is_opening window before p = not (list_any (has_counter p.counter) (last_few window (openings before)))
 
 -- a packet after these, which opens a heap or does not
-abbrev pub placed_as : List Placed → Parts → Bool → Placed
+abbrev pub placed_as : List PlacedPacket → Parts → Bool → PlacedPacket
 placed_as before p opens = record {
   place = length before;
   packet = p;
@@ -57,26 +57,26 @@ placed_as before p opens = record {
 }
 
 -- a heard packet with its place, whether it opens a heap, and the openings so far, by those before it
-abbrev pub place_next : ℕ → List Placed → Parts → Placed
+abbrev pub place_next : ℕ → List PlacedPacket → Parts → PlacedPacket
 place_next window before p = placed_as before p (is_opening window before p)
 
 -- each heard packet by those before it
-abbrev pub placed : ℕ → List Parts → List Placed
+abbrev pub placed : ℕ → List Parts → List PlacedPacket
 placed window h = in_turn (place_next window) h
 
 -- a member of the heap that o opened: not before o, of its counter, and with fewer than W openings after o up to and
 -- including it
-abbrev pub is_member : ℕ → Placed → Placed → Bool
+abbrev pub is_member : ℕ → PlacedPacket → PlacedPacket → Bool
 is_member window o q = nat_le o.place q.place && (has_counter q.packet.counter o && nat_lt q.openings (o.openings + window))
 
 -- the members of the heap that o opened, in order
-abbrev pub members : ℕ → List Placed → Placed → List Placed
+abbrev pub members : ℕ → List PlacedPacket → PlacedPacket → List PlacedPacket
 members window ps o = filter (is_member window o) ps
 
 -- the opening of the heap of which q is a member
-abbrev pub opening_of : ℕ → List Placed → Placed → Option Placed
+abbrev pub opening_of : ℕ → List PlacedPacket → PlacedPacket → Option PlacedPacket
 opening_of window ps q = find (λ o. is_member window o q) (openings ps)
 
 -- the placed heard packets of a list
-abbrev pub placed_in : Plan → List (List ℕ) → List Placed
+abbrev pub placed_in : Plan → List (List ℕ) → List PlacedPacket
 placed_in plan l = placed plan.window (heard plan l)

@@ -9,6 +9,7 @@ pub mod live_heaps;
 pub mod output;
 pub mod packet_verdicts;
 pub mod packets;
+pub mod steps;
 pub mod tables;
 pub mod verdicts;
 pub mod windows;

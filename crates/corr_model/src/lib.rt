@@ -3,6 +3,7 @@
 
 mod assembly_laws;
 pub mod examples;
+mod feed_laws;
 mod heap;
 mod item;
 mod numbering;
@@ -23,6 +24,10 @@ mod window_laws;
 pub use assembly_laws::{
     each_byte_once, no_made_up_byte, packets_end_within_their_sizes, whole_payload_has_its_size,
 };
+pub use feed_laws::{
+    ended_front_took_all, given_columns_are_final, next_report, next_table,
+    unreached_columns_are_empty,
+};
 pub use heap::DropCause;
 pub use item::{DescRefusal, Dim, ItemType};
 pub use numbering::{baseline, pair};
@@ -39,7 +44,10 @@ pub use stream_laws::{
     next_made, next_member, next_placed, next_whole_heap, next_whole_in, one_heap_at_a_place,
     rest_says_nothing, strings_that_count,
 };
-pub use sum_laws::{parts_add, parts_are_small, turned_round_is_conjugate, two_lists_alone};
+pub use sum_laws::{
+    missing_is_the_same_turned_round, parts_add, parts_are_small, turned_round_is_conjugate,
+    two_lists_alone,
+};
 pub use table_laws::{bad_descriptor_changes_nothing, descriptor_is_the_entry_of_its_id};
 pub use verdict::{Ending, Verdict};
 pub use verdict_laws::{

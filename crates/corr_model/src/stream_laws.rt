@@ -5,7 +5,7 @@ ghost use Rattle.std.specs.List.{list_any};
 ghost use Rattle.std.specs.Option.{option_to_list};
 ghost use Rattle.corr_model.specs.declared.plan.Plan.{Plan};
 ghost use Rattle.corr_model.specs.Packets.{Parts, packet_in};
-ghost use Rattle.corr_model.specs.Windows.{heard_in, heard, Placed, placed, place_next, is_member, members, placed_in};
+ghost use Rattle.corr_model.specs.Windows.{heard_in, heard, PlacedPacket, placed, place_next, is_member, members, placed_in};
 ghost use Rattle.corr_model.specs.Assembly.{fates, fate_next, WholeHeap, whole_now, whole_heaps};
 ghost use Rattle.corr_model.specs.PacketVerdicts.{heap_made, next_outcome};
 ghost use Rattle.corr_model.specs.Streams.{whole_in, heaps, judge_next, has_stopped, ending, taken, floor, is_used_at, cell, column};
@@ -28,20 +28,20 @@ pub fn next_placed()
 
 /// A packet more is the last member of each heap of which it is one, and leaves the other heaps alone.
 pub fn next_member()
-    ensures { (window : ℕ) (ps : List Placed) (q o : Placed)
+    ensures { (window : ℕ) (ps : List PlacedPacket) (q o : PlacedPacket)
         → members window (ps ++ q ∷ []) o
         ≡ members window ps o ++ (if is_member window o q then q ∷ [] else []) }
 {}
 
 /// A member more is judged against those kept before it, and changes nothing about them.
 pub fn next_fate()
-    ensures { (ms : List Placed) (q : Placed)
+    ensures { (ms : List PlacedPacket) (q : PlacedPacket)
         → fates (ms ++ q ∷ []) ≡ fates ms ++ fate_next (fates ms) q ∷ [] }
 {}
 
 /// A packet more makes at most one heap whole, and a heap that was whole stays as it was.
 pub fn next_whole_heap()
-    ensures { (window : ℕ) (ps : List Placed) (q : Placed)
+    ensures { (window : ℕ) (ps : List PlacedPacket) (q : PlacedPacket)
         → whole_heaps window (ps ++ q ∷ [])
         ≡ whole_heaps window ps ++ option_to_list (whole_now window (ps ++ q ∷ [])) }
 {}

@@ -31,6 +31,13 @@ pub fn turned_round_is_conjugate()
         → (part plan lists n j i c q p from to).imaginary ≡ neg_ℤ (part plan lists n i j c p q from to).imaginary }
 {}
 
+/// A missing count is the same with the antennas turned round.
+#[tactic(auto, using(crate::proofs::SumLaws::missing_turned))]
+pub fn missing_is_the_same_turned_round()
+    ensures { (plan : Plan) (lists : Lists) (n i j : ℕ)
+        → missing plan lists n j i ≡ missing plan lists n i j }
+{}
+
 /// Neither part of a value is greater than 2^39 in size, for a plan that fits and streams of byte strings.
 pub fn parts_are_small()
     ensures { (plan : Plan) (lists : Lists) (n i j c p q from to : ℕ)

@@ -77,6 +77,7 @@ pub fn first_cause_counts()
         ≡ None ∷ Some SizeDiffers ∷ [] }
     ensures end { causes (half 1 ∷ piece 1 None 1 (1 ∷ 2 ∷ 3 ∷ 4 ∷ []) ∷ []) ≡ None ∷ Some PastSize ∷ [] }
     ensures overlap { causes (half 1 ∷ overlapping ∷ []) ≡ None ∷ Some Overlap ∷ [] }
+    ensures lesser_size { causes (half 1 ∷ piece 1 (Some 3) 2 [] ∷ []) ≡ None ∷ Some SizeDiffers ∷ [] }
 {}
 
 /// Where a kept packet's end is past the size that a later one says, the later one is dropped.

@@ -3,15 +3,15 @@
 ghost use Rattle.std.specs.Prelude.{◌≡◌, ℕ, List, [], ◌∷◌, ◌++◌, map, replicate, take, Ok, Err};
 ghost use Rattle.corr_model.specs.declared.item.DescRefusal.TheVariants.{NoId, ShapeBytes, TypeBytes, NoType, Letter, Bits, TooMany, Packet};
 ghost use Rattle.corr_model.specs.declared.pointer.Refusal.TheVariants.{Length, Short};
-ghost use Rattle.corr_model.specs.Descriptors.{addressed, immediate, described_in, descriptor_bytes};
+ghost use Rattle.corr_model.specs.Descriptors.{addressed, immediate, described_in, descriptor_bytes, dimension, dimension_bytes};
 ghost use Rattle.corr_model.specs.Lists.{numbers};
 ghost use Rattle.corr_model.specs.Outputs.{timestamp_item};
 ghost use Rattle.corr_model.specs.Tables.{item_type_of};
-ghost use Rattle.corr_model.specs.declared.item.Dim.TheVariants.{Variable};
-ghost use Rattle.corr_model.specs.Examples.{with_byte, without_pointer};
+ghost use Rattle.corr_model.specs.declared.item.Dim.TheVariants.{Fixed, Variable};
+ghost use Rattle.corr_model.specs.Examples.{with_byte, with_bytes, without_pointer};
 ghost use Rattle.corr_model.specs.ExamplesOutput.{missing_bytes, timestamp_bytes};
 ghost use Rattle.corr_model.specs.ExamplesDescriptors.{missing_three, missing_variable, missing_many, missing_as, missing_of_type, shape_at, types_at, shape_before_types, unreadable_voltages, named};
-ghost use Rattle.corr_model.specs.ExamplesDescriptors.{missing_own, missing_under, missing_with};
+ghost use Rattle.corr_model.specs.ExamplesDescriptors.{missing_own, missing_under, missing_with, missing_bare, long_dimension};
 
 /// The descriptor of `missing` with three baselines, read and written: 89 bytes.
 pub fn missing_descriptor()
@@ -53,6 +53,7 @@ pub fn ends_of_the_types()
     ensures character { described_in (descriptor_bytes (missing_of_type 99 64))
         ≡ Ok (missing_of_type 99 64) }
     ensures wide { described_in (descriptor_bytes (missing_of_type 117 65)) ≡ Err Bits }
+    ensures two_bytes { described_in (with_byte 80 1 missing_bytes) ≡ Err Bits }
     ensures letter_before_bits { described_in (descriptor_bytes (missing_of_type 98 0))
         ≡ Err Letter }
 {}
@@ -68,7 +69,27 @@ pub fn variable_dimension()
     ensures variable { described_in (with_byte 82 1 missing_bytes)
         ≡ Ok missing_variable }
     ensures other_bits { described_in (with_byte 82 0xfe missing_bytes) ≡ Ok missing_three }
+    ensures all_bits { described_in (with_byte 82 0xff missing_bytes) ≡ Ok missing_variable }
     ensures both { described_in (descriptor_bytes missing_variable) ≡ Ok missing_variable }
+    ensures written { descriptor_bytes missing_variable
+        ≡ with_bytes 82 (1 ∷ 0 ∷ 0 ∷ 0 ∷ 0 ∷ 0 ∷ 0 ∷ []) missing_bytes }
+{}
+
+/// All six bytes after the first of a dimension are its length.
+pub fn length_of_a_dimension()
+    ensures read { dimension long_dimension ≡ Fixed 0x010203040506 }
+    ensures written { dimension_bytes (Fixed 0x010203040506) ≡ long_dimension }
+{}
+
+/// A descriptor without shape and name has no dimension and an empty name.
+pub fn descriptor_without_shape()
+    ensures { described_in (missing_under (immediate 0x14 0x1801 ∷ addressed 0x13 7 ∷ addressed 0x2000 10 ∷ []))
+        ≡ Ok missing_bare }
+{}
+
+/// Types are addressed: an immediate pointer before the addressed one is the item, and no type.
+pub fn immediate_types_before_addressed_ones()
+    ensures { described_in (missing_under (immediate 0x13 7 ∷ missing_own)) ≡ Err NoType }
 {}
 
 /// A descriptor with id, name and a description in numpy's form alone has no type.

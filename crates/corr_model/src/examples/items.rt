@@ -5,11 +5,12 @@ ghost use Rattle.corr_model.specs.declared.verdict.Verdict.TheVariants.{Undescri
 ghost use Rattle.corr_model.specs.Lists.{numbers};
 ghost use Rattle.corr_model.specs.Items.{addressed_content, item, number_item, descriptor_contents};
 ghost use Rattle.corr_model.specs.Descriptors.{immediate, addressed, descriptor_bytes};
-ghost use Rattle.corr_model.specs.Tables.{scalar, voltages, readable_descriptors, table_ids, table_entry};
+ghost use Rattle.corr_model.specs.Tables.{scalar, voltages, preset, readable_descriptors, table_ids, table_entry};
 ghost use Rattle.corr_model.specs.Tables.{item_type_of, is_unsigned_scalar, is_voltages, has_shape};
 ghost use Rattle.corr_model.specs.declared.item.Dim.TheVariants.{Fixed, Variable};
 ghost use Rattle.corr_model.specs.Examples.{small_plan, verdicts};
 ghost use Rattle.corr_model.specs.ExamplesVerdicts.{undescribed_plan};
+ghost use Rattle.corr_model.specs.ExamplesCorrelation.{two_channels};
 ghost use Rattle.corr_model.specs.ExamplesDescriptors.{shared_offsets, unreadable_voltages, redescribed, wider_voltages, missing_with, voltages_with};
 ghost use Rattle.corr_model.specs.ExamplesDescriptors.{wider_and_back, wider_then_one, twice_six, six_addressed, four_descriptors};
 
@@ -82,6 +83,7 @@ pub fn unsigned_numbers()
 /// Voltages need their four fixed dimensions in order, and one signed type of 8 bits.
 pub fn shapes_of_voltages()
     ensures right { is_voltages small_plan (voltages_with (1 ∷ 1 ∷ 2 ∷ 2 ∷ []) (item_type_of 105 8 ∷ [])) ≡ true }
+    ensures channels { is_voltages two_channels (voltages_with (2 ∷ 1 ∷ 2 ∷ 2 ∷ []) (item_type_of 105 8 ∷ [])) ≡ true }
     ensures order { is_voltages small_plan (voltages_with (2 ∷ 2 ∷ 1 ∷ 1 ∷ []) (item_type_of 105 8 ∷ [])) ≡ false }
     ensures fewer { is_voltages small_plan (voltages_with (1 ∷ 1 ∷ 2 ∷ []) (item_type_of 105 8 ∷ [])) ≡ false }
     ensures more { is_voltages small_plan (voltages_with (1 ∷ 1 ∷ 2 ∷ 2 ∷ 1 ∷ []) (item_type_of 105 8 ∷ [])) ≡ false }
@@ -96,4 +98,20 @@ pub fn tables_at_the_start()
     ensures empty { table_ids (readable_descriptors undescribed_plan []) ≡ [] }
     ensures preset { table_ids (readable_descriptors small_plan [])
         ≡ 0x1600 ∷ 0x4101 ∷ 0x4300 ∷ [] }
+{}
+
+/// What is described beforehand, written out: numbers of type u48 for timestamp and antenna, and
+/// voltages of type i8 by channel, spectrum, polarisation and part; none has a name.
+pub fn items_described_beforehand()
+    ensures preset { preset two_channels
+        ≡ record { id = 0x1600; shape = []; types = record { letter = 117; bits = 48 } ∷ []; name = [] }
+        ∷ record { id = 0x4101; shape = []; types = record { letter = 117; bits = 48 } ∷ []; name = [] }
+        ∷ record {
+          id = 0x4300;
+          shape = Fixed 2 ∷ Fixed 1 ∷ Fixed 2 ∷ Fixed 2 ∷ [];
+          types = record { letter = 105; bits = 8 } ∷ [];
+          name = [];
+        }
+        ∷ [] }
+    ensures none { preset undescribed_plan ≡ [] }
 {}

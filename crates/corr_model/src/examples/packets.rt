@@ -3,8 +3,8 @@
 ghost use Rattle.std.specs.Prelude.{◌≡◌, ℕ, List, [], ◌∷◌, ◌++◌, length, take, Some, None};
 ghost use Rattle.corr_model.specs.declared.pointer.Refusal.TheVariants.{Short, Magic, Version, Flavour, Pointers, NoCounter, NoOffset, NoLength, Length, PastHeap};
 ghost use Rattle.corr_model.specs.declared.verdict.Verdict.TheVariants.{Used};
-ghost use Rattle.corr_model.specs.Packets.{packet_in, refusal_of};
-ghost use Rattle.corr_model.specs.Descriptors.{immediate, addressed};
+ghost use Rattle.corr_model.specs.Packets.{packet_in, pointer_of, refusal_of};
+ghost use Rattle.corr_model.specs.Descriptors.{immediate, addressed, word_of};
 ghost use Rattle.corr_model.specs.Windows.{heard};
 ghost use Rattle.corr_model.specs.Examples.{small_plan, example_packet, first_packet, first_samples, with_byte, with_bytes, without_pointer, ten_refused, counted_twice, verdicts};
 ghost use Rattle.corr_model.specs.ExamplesOutput.{first_packet_bytes};
@@ -25,6 +25,17 @@ pub fn first_packet_is_read()
       pointers = immediate 0x1600 0 ∷ immediate 0x4101 0 ∷ addressed 0x4300 0 ∷ [];
       payload = first_samples;
     }) }
+{}
+
+/// A pointer has a bit of mode, fifteen of id and 48 of value, the greatest bytes first.
+pub fn words_of_pointers()
+    ensures immediate { pointer_of (0x96 ∷ 0x00 ∷ 1 ∷ 2 ∷ 3 ∷ 4 ∷ 5 ∷ 6 ∷ [])
+        ≡ immediate 0x1600 0x010203040506 }
+    ensures addressed { pointer_of (0x7f ∷ 0xff ∷ 1 ∷ 2 ∷ 3 ∷ 4 ∷ 5 ∷ 6 ∷ [])
+        ≡ addressed 0x7fff 0x010203040506 }
+    ensures null { pointer_of (0x80 ∷ 0x00 ∷ 0 ∷ 0 ∷ 0 ∷ 0 ∷ 0 ∷ 5 ∷ []) ≡ immediate 0 5 }
+    ensures written { word_of (immediate 0x1600 0x010203040506)
+        ≡ 0x96 ∷ 0x00 ∷ 1 ∷ 2 ∷ 3 ∷ 4 ∷ 5 ∷ 6 ∷ [] }
 {}
 
 /// The first packet changed in ten ways, and the refusal that each brings.
@@ -59,6 +70,7 @@ pub fn reserved_bytes_are_ignored()
     ensures reserved { packet_in (with_bytes 4 (1 ∷ 2 ∷ []) first_packet) ≡ packet_in first_packet }
     ensures nothing_left { refusal_of (example_packet 1 (Some 4) 4 [] []) ≡ None }
     ensures no_size { refusal_of (example_packet 1 None 4 [] (1 ∷ [])) ≡ None }
+    ensures past_the_size { refusal_of (example_packet 1 (Some 4) 3 [] (1 ∷ 2 ∷ [])) ≡ Some PastHeap }
 {}
 
 /// Where several refusals apply, the first in their order counts.

@@ -5,7 +5,10 @@ ghost use Rattle.corr_model.specs.declared.verdict.Verdict.TheVariants.{Undescri
 ghost use Rattle.corr_model.specs.Descriptors.{immediate, addressed};
 ghost use Rattle.corr_model.specs.Streams.{above_top, cell, column, floor, heaps};
 ghost use Rattle.corr_model.specs.Examples.{small_plan, voltage_heap, voltage_pointers, both_heaps, first_samples, second_samples, verdicts};
+ghost use Rattle.corr_model.specs.Tables.{scalar, voltages};
 ghost use Rattle.corr_model.specs.ExamplesVerdicts.{undescribed_plan, described_late, self_described, with_lag, heaps_at, two_at_one_place, timed_plan, timed, guarded_plan, late_in_time, own_first, other_first, immediate_voltages};
+ghost use Rattle.corr_model.specs.ExamplesVerdicts.{described_as, signed_scalar, odd_plan, immediate_first};
+ghost use Rattle.corr_model.specs.ExamplesDescriptors.{wider_then_own};
 
 /// Undescribed until described: only the heap after the three descriptors is used.
 pub fn undescribed_until_described()
@@ -18,6 +21,35 @@ pub fn undescribed_until_described()
 /// The descriptors of a heap count for it: one that brings its own is used.
 pub fn described_in_the_same_heap()
     ensures { verdicts undescribed_plan 0 (self_described ∷ []) ≡ Used 0 0 ∷ [] }
+{}
+
+/// A heap's own descriptors come after those of the earlier heaps: after voltages of two channels,
+/// a heap that brings the right description with its samples is used.
+pub fn own_descriptors_come_last()
+    ensures { verdicts small_plan 0 wider_then_own ≡ Undescribed ∷ Used 0 0 ∷ [] }
+{}
+
+/// Timestamp, antenna and voltages need a description each, and the numbers an unsigned one.
+pub fn all_three_are_described()
+    ensures all { verdicts undescribed_plan 0 (described_as (scalar 0x1600 ∷ scalar 0x4101 ∷ voltages small_plan ∷ []))
+        ≡ Undescribed ∷ Used 0 0 ∷ [] }
+    ensures voltages_alone { verdicts undescribed_plan 0 (described_as (voltages small_plan ∷ []))
+        ≡ Undescribed ∷ Undescribed ∷ [] }
+    ensures no_timestamp { verdicts undescribed_plan 0 (described_as (scalar 0x4101 ∷ voltages small_plan ∷ []))
+        ≡ Undescribed ∷ Undescribed ∷ [] }
+    ensures no_antenna { verdicts undescribed_plan 0 (described_as (scalar 0x1600 ∷ voltages small_plan ∷ []))
+        ≡ Undescribed ∷ Undescribed ∷ [] }
+    ensures no_voltages { verdicts undescribed_plan 0 (described_as (scalar 0x1600 ∷ scalar 0x4101 ∷ []))
+        ≡ Undescribed ∷ Undescribed ∷ [] }
+    ensures signed_timestamp { verdicts undescribed_plan 0 (described_as (signed_scalar 0x1600 ∷ scalar 0x4101 ∷ voltages small_plan ∷ []))
+        ≡ Undescribed ∷ Undescribed ∷ [] }
+{}
+
+/// The grid counts from the start: from 101 in steps of 4 there are 101, 105 and 109, and neither
+/// 104, which is a multiple of 4, nor 106.
+pub fn grid_from_an_odd_start()
+    ensures { verdicts odd_plan 0 (heaps_at (100 ∷ 101 ∷ 104 ∷ 105 ∷ 106 ∷ 109 ∷ []))
+        ≡ BeforeStart ∷ Used 0 0 ∷ OffGrid ∷ Used 0 1 ∷ OffGrid ∷ Used 1 0 ∷ [] }
 {}
 
 /// Lag one: a heap at timestamp 2 closes the first accumulation.
@@ -53,6 +85,8 @@ pub fn every_verdict_of_time()
 pub fn heap_of_another_antenna()
     ensures verdicts { verdicts small_plan 1 both_heaps ≡ Foreign 0 ∷ Foreign 0 ∷ [] }
     ensures floor { floor small_plan 1 both_heaps false ≡ 0 }
+    ensures far { verdicts (with_lag 1) 0 (voltage_heap 1 1 2 first_samples ∷ voltage_heap 2 0 0 first_samples ∷ [])
+        ≡ Foreign 1 ∷ Used 0 0 ∷ [] }
 {}
 
 /// With no guard a heap may be as far ahead as it likes; with a guard of 1 it is next or none.
@@ -88,6 +122,8 @@ pub fn length_of_voltages()
     ensures shorter { verdicts small_plan 0 (voltage_heap 1 0 0 (1 ∷ 2 ∷ 3 ∷ []) ∷ [])
         ≡ Undescribed ∷ [] }
     ensures immediate { verdicts small_plan 0 (immediate_voltages ∷ [])
+        ≡ Undescribed ∷ [] }
+    ensures immediate_first { verdicts small_plan 0 (immediate_first ∷ [])
         ≡ Undescribed ∷ [] }
 {}
 
