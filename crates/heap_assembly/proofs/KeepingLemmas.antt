@@ -11,7 +11,7 @@ use Rattle.corr_model.specs.declared.heap.DropCause.{DropCause}
 use Rattle.corr_model.specs.declared.heap.DropCause.TheVariants.{SizeDiffers, PastSize, Overlap, TooManyPointers}
 use Rattle.corr_model.specs.Lists.{distinct}
 use Rattle.corr_model.specs.Packets.{Parts}
-use Rattle.corr_model.specs.Windows.{Placed, end_of}
+use Rattle.corr_model.specs.Windows.{PlacedPacket, end_of}
 use Rattle.corr_model.specs.Assembly.{are_same, sizes_differ, is_past, share_a_byte, pointers_of, said_size, payload_bytes, holds_byte, drop_cause, kept, fates, fate_next}
 use Rattle.corr_model.specs.LiveHeaps.{greatest_end, byte_brought}
 use Rattle.corr_model.proofs.Turns.{in_turn_keeps}
@@ -171,7 +171,7 @@ keeping_by ks p None is so_far = keeping_push ks p is so_far
 keeping_by ks p (Some cause) is so_far = subst IsKeeping (sym (append-nil ks)) so_far
 
 -- the packets that a heap keeps are such
-pub kept_keeping : (ms : List Placed) → IsKeeping (kept (fates ms))
+pub kept_keeping : (ms : List PlacedPacket) → IsKeeping (kept (fates ms))
 kept_keeping ms =
     in_turn_keeps (λ fs. IsKeeping (kept fs)) fate_next nothing_kept
     (λ before q so_far. subst IsKeeping (sym (kept_push before (fate_next before q))) (keeping_by (kept before) q.packet (drop_cause (kept before) q.packet) refl so_far)) ms

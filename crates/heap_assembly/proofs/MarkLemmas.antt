@@ -1,8 +1,8 @@
 -- Marks by whole words: what a mask of bits looks up and sets.
-use Rattle.std.proofs.Common.{◌≡◌, ◌≢◌, ℕ, zero, suc, ◌+◌, ◌-◌, ◌*◌, ◌/◌, ◌%◌, ◌^◌, ◌<◌, ◌≤◌, min, max, true, false, ◌||◌, nat_eq, List, ◌++◌, length, get_or, set, drop, replicate, slice_index, bit_and, bit_or, refl, sym, ap, ap₂, subst, ◌∙◌, inl, inr, arith, get_or-set_same, get_or-set_other}
+use Rattle.std.proofs.Common.{◌≡◌, ◌≢◌, ℕ, zero, suc, ◌+◌, ◌-◌, ◌*◌, ◌/◌, ◌%◌, ◌^◌, ◌<◌, ◌≤◌, min, max, Bool, true, false, ◌||◌, nat_eq, List, ◌++◌, length, get_or, set, take, drop, replicate, slice_index, bit_and, bit_or, refl, sym, ap, ap₂, subst, ◌∙◌, inl, inr, arith, get_or-set_same, get_or-set_other, length-take-le}
 use Rattle.std.specs.Int.{bit_at, trailing_zeros, w64}
 use Rattle.std.proofs.lemmas.Bool.{cases_lt, eq-eqb}
-use Rattle.std.proofs.lemmas.List.{get_or-replicate, get_or_past, get_or_append_left, get_or-append_right, get_or-drop, length-replicate}
+use Rattle.std.proofs.lemmas.List.{get_or-replicate, get_or_past, get_or_append_left, get_or-append_right, get_or-drop, get_or-take, length-replicate}
 use Rattle.std.proofs.lemmas.Nat.{and_le_l}
 use Rattle.std.proofs.lemmas.Nat.Bits.{bit_at_and, bit_at_or, bit_at_ones, bit_at_ones_above, bit_at_mask_inside, bit_at_mask_below, ones_shl, ones_shr, bit_at-lt, bit_at-zero, bit_at-trailing_zeros}
 use Rattle.heap_assembly.specs.Marks.{mark_at, any_marked, Marks}
@@ -92,6 +92,66 @@ pub same_any : (f g : ℕ → ℕ) → ((i : ℕ) → f i ≡ g i) → (from n :
 same_any f g same from zero = refl
 same_any f g same from (suc n) = ap₂ (λ m b. nat_eq m 1 || b) (same (from + n)) (same_any f g same from n)
 
+or_assoc : (x y z : Bool) → x || (y || z) ≡ (x || y) || z
+or_assoc true y z = refl
+or_assoc false y z = refl
+
+or_third : (z y : Bool) → z || (y || true) ≡ true
+or_third true y = refl
+or_third false true = refl
+or_third false false = refl
+
+or_second : (z x : Bool) → z || (true || x) ≡ true
+or_second true x = refl
+or_second false x = refl
+
+or_first : (z : Bool) → z || (false || false) ≡ z
+or_first true = refl
+or_first false = refl
+
+-- a range in two parts
+any_two : (marks : ℕ → ℕ) (from a b : ℕ) → any_marked marks from (a + b) ≡ any_marked marks (from + a) b || any_marked marks from a
+any_two marks from a zero = let e : a + 0 ≡ a = omega arith in ap (λ n. any_marked marks from n) e
+any_two marks from a (suc b) =
+    let e : a + suc b ≡ suc (a + b) = omega arith in
+    let f : from + (a + b) ≡ from + a + b = omega arith in
+    ap (λ n. any_marked marks from n) e
+    ∙ ap₂ (λ i r. nat_eq (marks i) 1 || r) f (any_two marks from a b)
+    ∙ or_assoc (nat_eq (marks (from + a + b)) 1) (any_marked marks (from + a) b) (any_marked marks from a)
+
+-- a range in three parts, the last in front
+any_three : (marks : ℕ → ℕ) (from middle end to : ℕ) → from ≤ middle → middle ≤ end → end ≤ to
+    → any_marked marks from (to - from) ≡ any_marked marks end (to - end) || (any_marked marks middle (end - middle) || any_marked marks from (middle - from))
+any_three marks from middle end to a b c =
+    let whole : to - from ≡ (end - from) + (to - end) = omega arith in
+    let front : end - from ≡ (middle - from) + (end - middle) = omega arith in
+    let at_end : from + (end - from) ≡ end = omega arith in
+    let at_middle : from + (middle - from) ≡ middle = omega arith in
+    ap (λ n. any_marked marks from n) whole
+    ∙ any_two marks from (end - from) (to - end)
+    ∙ ap₂ (λ i r. any_marked marks i (to - end) || r) at_end
+    (ap (λ n. any_marked marks from n) front
+    ∙ any_two marks from (middle - from) (end - middle)
+    ∙ ap (λ i. any_marked marks i (end - middle) || any_marked marks from (middle - from)) at_middle)
+
+pub any_in_front : (marks : ℕ → ℕ) (from middle end to : ℕ) → from ≤ middle → middle ≤ end → end ≤ to → any_marked marks from (middle - from) ≡ true → any_marked marks from (to - from) ≡ true
+any_in_front marks from middle end to a b c some =
+    let last = any_marked marks end (to - end) in
+    let between = any_marked marks middle (end - middle) in
+    any_three marks from middle end to a b c ∙ ap (λ x. last || (between || x)) some ∙ or_third last between
+
+pub any_between : (marks : ℕ → ℕ) (from middle end to : ℕ) → from ≤ middle → middle ≤ end → end ≤ to → any_marked marks middle (end - middle) ≡ true → any_marked marks from (to - from) ≡ true
+any_between marks from middle end to a b c some =
+    let last = any_marked marks end (to - end) in
+    let front = any_marked marks from (middle - from) in
+    any_three marks from middle end to a b c ∙ ap (λ y. last || (y || front)) some ∙ or_second last front
+
+pub any_at_end : (marks : ℕ → ℕ) (from middle end to : ℕ) → from ≤ middle → middle ≤ end → end ≤ to → any_marked marks from (middle - from) ≡ false → any_marked marks middle (end - middle) ≡ false
+    → any_marked marks from (to - from) ≡ any_marked marks end (to - end)
+any_at_end marks from middle end to a b c front between =
+    let last = any_marked marks end (to - end) in
+    any_three marks from middle end to a b c ∙ ap₂ (λ x y. last || (y || x)) front between ∙ or_first last
+
 -- ---- looking up by a mask
 
 -- the mask shows no mark of the range in the word
@@ -125,6 +185,24 @@ some_seen words w mask from to some fits below above =
     let same : 64 * w + k - 64 * w ≡ k = omega arith in
     let here : mark_at words (64 * w + k) ≡ 1 = mark_in words w (64 * w + k) (omega arith) (omega arith) ∙ ap (bit_at (get_or words w 0)) same ∙ (omega (arith, one, split, small)) in
     any_from_one (mark_at words) from (to - from) (64 * w + k) low (omega arith) here
+
+-- a word that is not 0 has a mark
+pub word_seen : (words : List ℕ) (w first last : ℕ) → get_or words w 0 ≢ 0 → get_or words w 0 < 2 ^ 64 → first ≤ w → w < last
+    → any_marked (mark_at words) (64 * first) (64 * last - 64 * first) ≡ true
+word_seen words w first last some fits low high =
+    let n = get_or words w 0 in
+    let k = trailing_zeros w64 n in
+    let bit = bit_at-trailing_zeros w64 n (omega arith) fits in
+    let word : k < 64 = bit.0 in
+    let one : bit_at n k ≡ 1 = bit.1 in
+    let same : 64 * w + k - 64 * w ≡ k = omega arith in
+    let here : mark_at words (64 * w + k) ≡ 1 = mark_in words w (64 * w + k) (omega arith) (omega arith) ∙ ap (bit_at n) same ∙ one in
+    any_from_one (mark_at words) (64 * first) (64 * last - 64 * first) (64 * w + k) (omega arith) (omega arith) here
+
+-- a word that is 0 has none
+pub none_in_word : (words : List ℕ) (w i : ℕ) → get_or words w 0 ≡ 0 → 64 * w ≤ i → i < 64 * (w + 1) → mark_at words i ≡ 0
+none_in_word words w i none begin end =
+    mark_in words w i begin end ∙ ap (λ n. bit_at n (i - 64 * w)) none ∙ bit_at-zero (i - 64 * w)
 
 -- ---- marking by a mask
 
@@ -214,3 +292,43 @@ none_after_zeros words n k to room same within none i = elim (cases_lt (i / 64) 
       ap (λ v. bit_at v (i % 64)) (get_or-append_right (zeros k) (drop n words) n (i / 64) 0 (length-replicate {A = ℕ} k 0 ∙ same) after ∙ get_or-drop n words (i / 64 - n) 0 ∙ ap (λ j. get_or words j 0) at)
       ∙ none i (omega arith)
 ]
+
+-- one range after another
+pub marks_then : (old middle new : ℕ → ℕ) (from at to : ℕ) → from ≤ at → at ≤ to → Marks old middle from at → Marks middle new at to → Marks old new from to
+marks_then old middle new from at to low high first second = record {
+  inside = λ i begin end. elim (cases_lt i at) [
+    | inl before ↦ second.below i before ∙ first.inside i begin before
+    | inr behind ↦ second.inside i behind end
+  ];
+  below = λ i less. second.below i (omega arith) ∙ first.below i less;
+  above = λ i more. second.above i more ∙ first.above i (omega arith);
+}
+
+-- words that are all ones have each mark
+pub marks_filled : (words : List ℕ) (first last count k : ℕ) → first ≤ last → last ≤ length words → count ≡ last - first → k ≡ count
+    → Marks (mark_at words) (mark_at (take first words ++ (replicate k (2 ^ 64 - 1) ++ drop count (drop first words)))) (64 * first) (64 * last)
+unfolding mark_at
+marks_filled words first last count k order room counted long_as =
+    let ones = replicate k (2 ^ 64 - 1) in
+    let long : length (take first words) ≡ first = length-take-le first words (omega arith) in
+    let many : length ones ≡ k = length-replicate {A = ℕ} k (2 ^ 64 - 1) in
+    record {
+      inside = λ i begin end.
+          ap (λ v. bit_at v (i % 64))
+          (get_or-append_right (take first words) (ones ++ drop count (drop first words)) first (i / 64) 0 long (omega arith)
+          ∙ get_or_append_left ones (drop count (drop first words)) 0 (i / 64 - first) (omega (arith, many))
+          ∙ get_or-replicate k (i / 64 - first) (2 ^ 64 - 1) 0 (omega arith))
+          ∙ bit_at_ones 64 (i % 64) (omega arith);
+      below = λ i less.
+          ap (λ v. bit_at v (i % 64))
+          (get_or_append_left (take first words) (ones ++ drop count (drop first words)) 0 (i / 64) (omega (arith, long))
+          ∙ get_or-take first words (i / 64) 0 (omega arith));
+      above = λ i more.
+          let at : first + (count + (i / 64 - first - k)) ≡ i / 64 = omega arith in
+          ap (λ v. bit_at v (i % 64))
+          (get_or-append_right (take first words) (ones ++ drop count (drop first words)) first (i / 64) 0 long (omega arith)
+          ∙ get_or-append_right ones (drop count (drop first words)) k (i / 64 - first) 0 many (omega arith)
+          ∙ get_or-drop count (drop first words) (i / 64 - first - k) 0
+          ∙ get_or-drop first words (count + (i / 64 - first - k)) 0
+          ∙ ap (λ j. get_or words j 0) at);
+    }

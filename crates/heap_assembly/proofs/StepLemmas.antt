@@ -7,7 +7,7 @@ use Rattle.std.proofs.lemmas.List.{places}
 use Rattle.corr_model.specs.declared.heap.DropCause.{DropCause}
 use Rattle.corr_model.specs.declared.heap.DropCause.TheVariants.{SizeDiffers, PastSize, Overlap, TooManyPointers}
 use Rattle.corr_model.specs.Packets.{Parts}
-use Rattle.corr_model.specs.Windows.{Placed, end_of}
+use Rattle.corr_model.specs.Windows.{PlacedPacket, end_of}
 use Rattle.corr_model.specs.Assembly.{sizes_differ, is_past, share_a_byte, pointers_of, said_size, adds_up, payload_bytes, drop_cause, whole_front}
 use Rattle.corr_model.specs.LiveHeaps.{HeapStandsFor, kept_shown, greatest_end, byte_brought}
 use Rattle.corr_model.specs.PacketVerdicts.{kept_or_dropped, member_outcome}
@@ -45,7 +45,7 @@ mark_of (suc (suc m)) b o small is = absurd (omega arith)
 pub marks_of : (e : LiveState) (ks : List Parts) → ((k : ℕ) → stored e k ≡ byte_brought ks k) → (k : ℕ) → held ks k ≡ mark_at e.words k
 marks_of e ks bytes k = mark_of (mark_at e.words k) (slice_index e.bytes k) (byte_brought ks k) (mark_at-lt e.words k) (bytes k)
 
-pub assembles : (e : LiveState) (ms : List Placed) → IsSound e → e.whole ≡ false → HeapStandsFor (live_of e) ms → Assembles e (kept_shown ms)
+pub assembles : (e : LiveState) (ms : List PlacedPacket) → IsSound e → e.whole ≡ false → HeapStandsFor (live_of e) ms → Assembles e (kept_shown ms)
 assembles e ms sound not_whole s =
     let ks = kept_shown ms in
     let unfinished : is_some (whole_front ms) ≡ false = sym s.whole ∙ not_whole in
@@ -160,20 +160,20 @@ shows_after old ks p new w sound now t within =
 
 -- ---- the heap with the member more
 
-unfinished_of : (e : LiveState) (ms : List Placed) → e.whole ≡ false → HeapStandsFor (live_of e) ms → is_some (whole_front ms) ≡ false
+unfinished_of : (e : LiveState) (ms : List PlacedPacket) → e.whole ≡ false → HeapStandsFor (live_of e) ms → is_some (whole_front ms) ≡ false
 unfinished_of e ms not_whole s = sym s.whole ∙ not_whole
 
-kept_with : (ms : List Placed) (q : Placed) → is_some (whole_front ms) ≡ false → drop_cause (kept_shown ms) q.packet ≡ None → kept_shown (ms ++ q ∷ []) ≡ kept_shown ms ++ q.packet ∷ []
+kept_with : (ms : List PlacedPacket) (q : PlacedPacket) → is_some (whole_front ms) ≡ false → drop_cause (kept_shown ms) q.packet ≡ None → kept_shown (ms ++ q ∷ []) ≡ kept_shown ms ++ q.packet ∷ []
 kept_with ms q unfinished none = shown_push ms q unfinished ∙ ap (λ o. kept_shown ms ++ cond (is_none o) (q.packet ∷ []) []) none
 
-kept_without : (ms : List Placed) (q : Placed) (cause : DropCause) → is_some (whole_front ms) ≡ false → drop_cause (kept_shown ms) q.packet ≡ Some cause → kept_shown (ms ++ q ∷ []) ≡ kept_shown ms
+kept_without : (ms : List PlacedPacket) (q : PlacedPacket) (cause : DropCause) → is_some (whole_front ms) ≡ false → drop_cause (kept_shown ms) q.packet ≡ Some cause → kept_shown (ms ++ q ∷ []) ≡ kept_shown ms
 kept_without ms q cause unfinished some = shown_push ms q unfinished ∙ ap (λ o. kept_shown ms ++ cond (is_none o) (q.packet ∷ []) []) some ∙ append-nil (kept_shown ms)
 
-whole_with : (ms : List Placed) (q : Placed) → is_some (whole_front ms) ≡ false → (ks : List Parts) → kept_shown (ms ++ q ∷ []) ≡ ks
+whole_with : (ms : List PlacedPacket) (q : PlacedPacket) → is_some (whole_front ms) ≡ false → (ks : List Parts) → kept_shown (ms ++ q ∷ []) ≡ ks
     → is_some (whole_front (ms ++ q ∷ [])) ≡ adds_up (said_size ks) (payload_bytes ks)
 whole_with ms q unfinished ks is = whole_push ms q unfinished ∙ ap (λ ns. adds_up (said_size ns) (payload_bytes ns)) is
 
-stands_from : (e : LiveState) (ks : List Parts) (ns : List Placed) → Shows e ks → kept_shown ns ≡ ks → is_some (whole_front ns) ≡ adds_up (said_size ks) (payload_bytes ks) → HeapStandsFor (live_of e) ns
+stands_from : (e : LiveState) (ks : List Parts) (ns : List PlacedPacket) → Shows e ks → kept_shown ns ≡ ks → is_some (whole_front ns) ≡ adds_up (said_size ks) (payload_bytes ks) → HeapStandsFor (live_of e) ns
 stands_from e ks ns s is whole = record {
   size = s.size ∙ ap said_size (sym is);
   ending = s.ending ∙ ap greatest_end (sym is);
@@ -182,7 +182,7 @@ stands_from e ks ns s is whole = record {
   whole = s.whole ∙ sym whole;
 }
 
-taken_stands : (old : LiveState) (ms : List Placed) (q : Placed) (new : LiveState) (w : Bool) → IsSound old → old.whole ≡ false → end_of q.packet ≤ old.limit → Takes old q.packet new w
+taken_stands : (old : LiveState) (ms : List PlacedPacket) (q : PlacedPacket) (new : LiveState) (w : Bool) → IsSound old → old.whole ≡ false → end_of q.packet ≤ old.limit → Takes old q.packet new w
     → HeapStandsFor (live_of old) ms → HeapStandsFor (live_of new) (ms ++ q ∷ [])
 taken_stands old ms q new w sound not_whole within t s =
     let ks = kept_shown ms in
@@ -192,11 +192,11 @@ taken_stands old ms q new w sound not_whole within t s =
     stands_from new (ks ++ q.packet ∷ []) (ms ++ q ∷ []) (shows_after old ks q.packet new w sound now t within) shown (whole_with ms q unfinished (ks ++ q.packet ∷ []) shown)
 
 -- a packet that is dropped leaves the members' heap as it is
-pub record StaysOpen (ms : List Placed) (q : Placed) : Type 0 where
+pub record StaysOpen (ms : List PlacedPacket) (q : PlacedPacket) : Type 0 where
   pub shown : kept_shown (ms ++ q ∷ []) ≡ kept_shown ms
   pub still : is_some (whole_front (ms ++ q ∷ [])) ≡ false
 
-dropped_stays : (e : LiveState) (ms : List Placed) (q : Placed) (cause : DropCause) → IsSound e → e.whole ≡ false → option_or (early_cause e q.packet) (pointer_cause e q.packet) ≡ Some cause
+dropped_stays : (e : LiveState) (ms : List PlacedPacket) (q : PlacedPacket) (cause : DropCause) → IsSound e → e.whole ≡ false → option_or (early_cause e q.packet) (pointer_cause e q.packet) ≡ Some cause
     → HeapStandsFor (live_of e) ms → StaysOpen ms q
 dropped_stays e ms q cause sound not_whole is s =
     let unfinished = unfinished_of e ms not_whole s in
@@ -205,8 +205,8 @@ dropped_stays e ms q cause sound not_whole is s =
     record { shown = shown; still = whole_with ms q unfinished (kept_shown ms) shown ∙ now.unfinished }
 
 -- what the step leaves stands for the member more
-pub step_stands : (old : LiveState) (q : Placed) (new : LiveState) (a : Added) → IsSound old → old.whole ≡ false → end_of q.packet ≤ old.limit → Steps old q.packet new a
-    → (ms : List Placed) → HeapStandsFor (live_of old) ms → HeapStandsFor (live_of new) (ms ++ q ∷ [])
+pub step_stands : (old : LiveState) (q : PlacedPacket) (new : LiveState) (a : Added) → IsSound old → old.whole ≡ false → end_of q.packet ≤ old.limit → Steps old q.packet new a
+    → (ms : List PlacedPacket) → HeapStandsFor (live_of old) ms → HeapStandsFor (live_of new) (ms ++ q ∷ [])
 step_stands old q new Kept sound not_whole within step ms s = taken_stands old ms q new false sound not_whole within step s
 step_stands old q new Whole sound not_whole within step ms s = taken_stands old ms q new true sound not_whole within step s
 step_stands old q new (Dropped cause) sound not_whole within step ms s =
@@ -215,8 +215,8 @@ step_stands old q new (Dropped cause) sound not_whole within step ms s =
     subst (λ e. HeapStandsFor (live_of e) (ms ++ q ∷ [])) (sym step.0) (stands_same (live_of old) ms (ms ++ q ∷ []) stays.shown same s)
 
 -- and its answer is what the member is to its heap
-pub step_answer : (old : LiveState) (q : Placed) (new : LiveState) (a : Added) → IsSound old → old.whole ≡ false → end_of q.packet ≤ old.limit → Steps old q.packet new a
-    → (ms : List Placed) (counter : ℕ) → HeapStandsFor (live_of old) ms → member_outcome counter (ms ++ q ∷ []) ≡ outcome_by counter (ms ++ q ∷ []) a
+pub step_answer : (old : LiveState) (q : PlacedPacket) (new : LiveState) (a : Added) → IsSound old → old.whole ≡ false → end_of q.packet ≤ old.limit → Steps old q.packet new a
+    → (ms : List PlacedPacket) (counter : ℕ) → HeapStandsFor (live_of old) ms → member_outcome counter (ms ++ q ∷ []) ≡ outcome_by counter (ms ++ q ∷ []) a
 step_answer old q new Kept sound not_whole within step ms counter s =
     let after = taken_stands old ms q new false sound not_whole within step s in
     let now = assembles old ms sound not_whole s in

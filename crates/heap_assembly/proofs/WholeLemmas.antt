@@ -6,7 +6,7 @@ use Rattle.std.proofs.lemmas.Option.{none-some, same_Some}
 use Rattle.corr_model.specs.declared.pointer.Pointer.{Pointer}
 use Rattle.corr_model.specs.Lists.{numbers}
 use Rattle.corr_model.specs.Packets.{Parts}
-use Rattle.corr_model.specs.Windows.{Placed}
+use Rattle.corr_model.specs.Windows.{PlacedPacket}
 use Rattle.corr_model.specs.Assembly.{kept, fates, whole_front, is_past, said_size, payload_bytes, holds_byte, byte_of, joined, heap_of, WholeHeap}
 use Rattle.corr_model.specs.LiveHeaps.{HeapStandsFor, kept_shown, byte_brought}
 use Rattle.corr_model.proofs.AssemblyLaws.{added_up, length-joined}
@@ -24,7 +24,7 @@ some_of None is = absurd (false≢true is)
 some_of (Some x) is = (x, refl)
 
 -- a whole heap has as many bytes as the packets that it keeps bring
-pub have_of_whole : (e : LiveState) (ms : List Placed) → IsSound e → e.whole ≡ true → HeapStandsFor (live_of e) ms → e.have ≡ payload_bytes (kept_shown ms)
+pub have_of_whole : (e : LiveState) (ms : List PlacedPacket) → IsSound e → e.whole ≡ true → HeapStandsFor (live_of e) ms → e.have ≡ payload_bytes (kept_shown ms)
 have_of_whole e ms sound is s =
     let found = some_of (whole_front ms) (sym s.whole ∙ is) in
     let front = found.0 in
@@ -58,7 +58,7 @@ joined_at ks k below =
     ∙ ap (λ m. byte_of m (find (holds_byte m) ks)) (get_or-numbers 0 (payload_bytes ks) k 0 below ∙ (let e : 0 + k ≡ k = omega arith in e))
 
 -- so the front of its buffer is the payload
-pub payload_of_whole : (e : LiveState) (ms : List Placed) → IsSound e → e.whole ≡ true → HeapStandsFor (live_of e) ms → take e.have e.bytes ≡ joined (kept_shown ms)
+pub payload_of_whole : (e : LiveState) (ms : List PlacedPacket) → IsSound e → e.whole ≡ true → HeapStandsFor (live_of e) ms → take e.have e.bytes ≡ joined (kept_shown ms)
 payload_of_whole e ms sound is s =
     let ks = kept_shown ms in
     let have = have_of_whole e ms sound is s in
@@ -70,7 +70,7 @@ payload_of_whole e ms sound is s =
     get_or-take e.have e.bytes k 0 below ∙ sym (byte_there e ks k (all_there e sound is k below) (s.bytes k)) ∙ sym (joined_at ks k (omega (arith, have, below))))
 
 -- the heap that is lent is that of the packets that it keeps
-pub heap_of_whole : (e : LiveState) (ms : List Placed) (lent : WholeHeap) (pointers : List Pointer) (payload bytes : List ℕ) → IsSound e
+pub heap_of_whole : (e : LiveState) (ms : List PlacedPacket) (lent : WholeHeap) (pointers : List Pointer) (payload bytes : List ℕ) → IsSound e
     → lent ≡ record { counter = e.counter; pointers = pointers; payload = payload } → pointers ≡ e.pointers → payload ≡ take e.have bytes → bytes ≡ e.bytes
     → e.whole ≡ true → HeapStandsFor (live_of e) ms → lent ≡ heap_of e.counter (kept_shown ms)
 heap_of_whole e ms lent pointers payload bytes sound made pointers_are payload_is bytes_are is s =

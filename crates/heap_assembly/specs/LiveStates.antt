@@ -1,8 +1,8 @@
 -- A heap that is being put together, as its state shows it, against the live heap of the definitions. This project's own.
-use Rattle.std.specs.Prelude.{◌≡◌, ℕ, Bool, true, false, ◌==◌, if◌then◌else◌, List, slice_index, Option, Some, None}
+use Rattle.std.specs.Prelude.{◌≡◌, ℕ, Bool, true, false, ◌==◌, if◌then◌else◌, List, take, slice_index, Option, Some, None}
 use Rattle.corr_model.specs.declared.pointer.Pointer.{Pointer}
-use Rattle.corr_model.specs.Windows.{Placed}
-use Rattle.corr_model.specs.Assembly.{heap_of}
+use Rattle.corr_model.specs.Windows.{PlacedPacket}
+use Rattle.corr_model.specs.Assembly.{WholeHeap, heap_of}
 use Rattle.corr_model.specs.LiveHeaps.{LiveHeap, kept_shown}
 use Rattle.corr_model.specs.PacketVerdicts.{Outcome, Part, Makes, Dropped}
 use Rattle.heap_assembly.specs.Marks.{mark_at}
@@ -31,9 +31,13 @@ stored e k = if mark_at e.words k == 1 then Some (slice_index e.bytes k) else No
 abbrev pub live_of : LiveState → LiveHeap
 live_of e = record { counter = e.counter; size = e.size; ending = e.ending; byte = stored e; pointers = e.pointers; whole = e.whole }
 
+-- the whole heap that the state lends: the bytes that are there
+abbrev pub lent_of : LiveState → WholeHeap
+lent_of e = record { counter = e.counter; pointers = e.pointers; payload = take e.have e.bytes }
+
 -- what a member is to its heap, which has this counter, by the answer on it: kept, whole at it, or dropped. The members
 -- are those up to and including it
-abbrev pub outcome_by : ℕ → List Placed → Added → Outcome
+abbrev pub outcome_by : ℕ → List PlacedPacket → Added → Outcome
 outcome_by counter ms added.Kept = Part
 outcome_by counter ms added.Whole = Makes (heap_of counter (kept_shown ms))
 outcome_by counter ms (added.Dropped cause) = Dropped cause

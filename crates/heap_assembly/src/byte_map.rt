@@ -22,8 +22,8 @@ fn mask_of(start: usize, from: usize, to: usize) -> u64
     (u64::MAX >> (64 - high)) & (u64::MAX << low)
 }
 
-/// Whether one of the places from `from` up to `to` is marked.
-pub(crate) fn any_in(words: &[u64], from: usize, to: usize) -> bool
+// Whether one of the places from `from` up to `to` is marked, by a mask for each word.
+fn any_by_masks(words: &[u64], from: usize, to: usize) -> bool
     requires small { length words.now ≤ 2 ^ 26 }
     requires room { to ≤ 64 * length words.now }
     ensures { result ≡ any_marked (mark_at words.now) from (to - from) }
@@ -36,8 +36,43 @@ pub(crate) fn any_in(words: &[u64], from: usize, to: usize) -> bool
     false
 }
 
-/// Marks the places from `from` up to `to`.
-pub(crate) fn mark(words: &mut [u64], from: usize, to: usize)
+// Whether a place of the words from `first` up to `last` is marked.
+fn any_in_words(words: &[u64], first: usize, last: usize) -> bool
+    requires room { last ≤ length words.now }
+    requires order { first ≤ last }
+    ensures { result ≡ any_marked (mark_at words.now) (64 * first) (64 * last - 64 * first) }
+{
+    for word in first..last {
+        if words[word] != 0 {
+            return true;
+        }
+    }
+    false
+}
+
+/// Whether one of the places from `from` up to `to` is marked.
+pub(crate) fn any_in(words: &[u64], from: usize, to: usize) -> bool
+    requires small { length words.now ≤ 2 ^ 26 }
+    requires room { to ≤ 64 * length words.now }
+    ensures { result ≡ any_marked (mark_at words.now) from (to - from) }
+{
+    // The words whose places are all in the range.
+    let first = from.div_ceil(64);
+    let last = to / 64;
+    if last <= first {
+        return any_by_masks(words, from, to);
+    }
+    if any_by_masks(words, from, 64 * first) {
+        return true;
+    }
+    if any_in_words(words, first, last) {
+        return true;
+    }
+    any_by_masks(words, 64 * last, to)
+}
+
+// Marks the places from `from` up to `to`, by a mask for each word.
+fn mark_by_masks(words: &mut [u64], from: usize, to: usize)
     requires small { length words.old ≤ 2 ^ 26 }
     requires room { to ≤ 64 * length words.old }
     requires order { from ≤ to }
@@ -46,6 +81,34 @@ pub(crate) fn mark(words: &mut [u64], from: usize, to: usize)
     for word in from / 64..to.div_ceil(64) {
         words[word] |= mask_of(64 * word, from, to);
     }
+}
+
+// Marks the places of the words from `first` up to `last`.
+fn mark_words(words: &mut [u64], first: usize, last: usize)
+    requires order { first ≤ last }
+    requires room { last ≤ length words.old }
+    ensures { Marks (mark_at words.old) (mark_at words.new) (64 * first) (64 * last) }
+{
+    words[first..last].fill(u64::MAX);
+}
+
+/// Marks the places from `from` up to `to`.
+pub(crate) fn mark(words: &mut [u64], from: usize, to: usize)
+    requires small { length words.old ≤ 2 ^ 26 }
+    requires room { to ≤ 64 * length words.old }
+    requires order { from ≤ to }
+    ensures { Marks (mark_at words.old) (mark_at words.new) from to }
+{
+    // The words whose places are all in the range.
+    let first = from.div_ceil(64);
+    let last = to / 64;
+    if last <= first {
+        mark_by_masks(words, from, to);
+        return;
+    }
+    mark_by_masks(words, from, 64 * first);
+    mark_words(words, first, last);
+    mark_by_masks(words, 64 * last, to);
 }
 
 /// Takes all marks away, where none stands from `to` on.

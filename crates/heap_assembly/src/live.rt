@@ -1,8 +1,8 @@
 //! A heap that is being put together from packets in any order.
 
-ghost use Rattle.std.specs.Prelude.{◌≡◌, ◌+◌, ◌≤◌, max, true, false, List, [], ◌∷◌, ◌++◌, length, take, drop, IfOk, IfSome, None};
+ghost use Rattle.std.specs.Prelude.{◌≡◌, ◌+◌, ◌-◌, ◌≤◌, max, true, false, List, [], ◌∷◌, ◌++◌, length, take, drop, IfOk, IfSome, None};
 ghost use Rattle.std.specs.Option.{option_or};
-ghost use Rattle.corr_model.specs.Windows.{Placed, end_of, is_within};
+ghost use Rattle.corr_model.specs.Windows.{PlacedPacket, end_of, is_within};
 ghost use Rattle.corr_model.specs.Assembly.{heap_of, adds_up, sizes_differ, is_past};
 ghost use Rattle.corr_model.specs.LiveHeaps.{HeapStandsFor, kept_shown};
 ghost use Rattle.corr_model.specs.PacketVerdicts.{member_outcome};
@@ -45,8 +45,8 @@ impl Model for Live {
 
 impl Live {
     ghost use Rattle.heap_assembly.specs.Heaps.{whole_of};
-    ghost use Rattle.heap_assembly.specs.Marks.{Marks, mark_at};
-    ghost use Rattle.heap_assembly.specs.LiveStates.{LiveState, live_of, outcome_by, is_whole_answer, Stays};
+    ghost use Rattle.heap_assembly.specs.Marks.{Marks, any_marked, mark_at};
+    ghost use Rattle.heap_assembly.specs.LiveStates.{LiveState, live_of, lent_of, outcome_by, is_whole_answer, Stays};
     ghost use Rattle.heap_assembly.specs.Steps.{early_cause, with_pointers, Keeps, Steps};
 
     /// A heap of at most `limit` bytes, which no packet has come to, with counter 0 until it is
@@ -118,10 +118,10 @@ impl Live {
         requires not_whole { self.old.whole ≡ false }
         requires counter { packet.now.counter ≡ self.old.counter }
         requires within { is_within self.old.limit packet.now ≡ true }
-        ensures stands { (ms : List Placed) (q : Placed) → q.packet ≡ packet.now
+        ensures stands { (ms : List PlacedPacket) (q : PlacedPacket) → q.packet ≡ packet.now
             → HeapStandsFor (live_of self.old) ms
             → HeapStandsFor (live_of self.new) (ms ++ q ∷ []) }
-        ensures answer { (ms : List Placed) (q : Placed) → q.packet ≡ packet.now
+        ensures answer { (ms : List PlacedPacket) (q : PlacedPacket) → q.packet ≡ packet.now
             → HeapStandsFor (live_of self.old) ms
             → member_outcome q.packet.counter (ms ++ q ∷ [])
             ≡ outcome_by q.packet.counter (ms ++ q ∷ []) result }
@@ -138,7 +138,8 @@ impl Live {
     /// The whole heap.
     pub fn whole(&self) -> Heap<'_>
         requires whole { self.now.whole ≡ true }
-        ensures { (ms : List Placed) → HeapStandsFor (live_of self.now) ms
+        ensures is { whole_of result ≡ lent_of self.now }
+        ensures whole { (ms : List PlacedPacket) → HeapStandsFor (live_of self.now) ms
             → whole_of result ≡ heap_of self.now.counter (kept_shown ms) }
     {
         let (payload, _) = self.bytes.split_at(self.have);
@@ -177,10 +178,21 @@ impl Live {
         if is_past(self.size, end) || is_past(packet.size(), self.ending as u64) {
             return Some(DropCause::PastSize);
         }
-        if any_in(&self.words, packet.offset() as usize, end as usize) {
+        if self.overlaps(packet.offset() as usize, end as usize) {
             return Some(DropCause::Overlap);
         }
         None
+    }
+
+    // Whether one of these bytes is there; none is from the greatest end on.
+    fn overlaps(&self, from: usize, to: usize) -> bool
+        requires within { to ≤ self.now.limit }
+        ensures { result ≡ any_marked (mark_at self.now.words) from (to - from) }
+    {
+        if self.ending <= from {
+            return false;
+        }
+        any_in(&self.words, from, to)
     }
 
     // Keeps a packet that has no such cause; its pointers are there.

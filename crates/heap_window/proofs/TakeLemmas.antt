@@ -9,7 +9,7 @@ use Rattle.std.proofs.lemmas.Bool.{eqb-true, cond-true, cond-false, and_left}
 use Rattle.corr_model.specs.declared.heap.DropCause.TheVariants.{PastLimit}
 use Rattle.corr_model.specs.Lists.{last_few}
 use Rattle.corr_model.specs.Packets.{Parts}
-use Rattle.corr_model.specs.Windows.{Placed, is_within, is_opening, placed}
+use Rattle.corr_model.specs.Windows.{PlacedPacket, is_within, is_opening, placed}
 use Rattle.corr_model.specs.Assembly.{heap_of}
 use Rattle.corr_model.specs.LiveHeaps.{LiveHeap, HeapStandsFor, WindowStandsFor, kept_shown}
 use Rattle.corr_model.specs.PacketVerdicts.{Makes, Dropped, member_outcome, next_evicted, evicted_of}
@@ -82,7 +82,7 @@ last_there w heaps e low =
     ∙ ap Some (get_or-drop n all (length (drop n all) - 1) e ∙ ap (λ k. get_or all k e) at ∙ get_or_push heaps e e (length heaps) refl)
 
 -- what is answered is the outcome by the answer of the step
-outcome_is : (heaps : List LiveState) (place counter : ℕ) (e : LiveState) (ms : List Placed) (answer : Answer) (what : Taken) → slice_get heaps place ≡ Some e → e.counter ≡ counter
+outcome_is : (heaps : List LiveState) (place counter : ℕ) (e : LiveState) (ms : List PlacedPacket) (answer : Answer) (what : Taken) → slice_get heaps place ≡ Some e → e.counter ≡ counter
     → HeapStandsFor (live_of e) ms → IsWholeBy e place answer → Matches heaps answer what → outcome_of what ≡ outcome_by counter ms answer
 outcome_is heaps place counter e ms answers.Part what there same stands whole is = ap outcome_of is
 outcome_is heaps place counter e ms (answers.Whole at) what there same stands whole is =

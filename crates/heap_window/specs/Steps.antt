@@ -4,7 +4,7 @@ use Rattle.std.specs.List.{position}
 use Rattle.circular_buffer.specs.Buffer.{Buffer, keep_last}
 use Rattle.corr_model.specs.declared.heap.DropCause.TheVariants.{PastLimit}
 use Rattle.corr_model.specs.Packets.{Parts}
-use Rattle.corr_model.specs.Windows.{Placed}
+use Rattle.corr_model.specs.Windows.{PlacedPacket}
 use Rattle.corr_model.specs.Assembly.{WholeHeap, heap_of}
 use Rattle.corr_model.specs.LiveHeaps.{HeapStandsFor, kept_shown}
 use Rattle.corr_model.specs.PacketVerdicts.{Outcome, Part, Makes, Stale, Dropped, member_outcome}
@@ -21,7 +21,7 @@ use Rattle.heap_window.specs.WindowStates.{WindowState}
 
 -- what a member is to its heap, which has this counter, by the answer on it. The members are those up to and
 -- including it
-abbrev pub outcome_by : ℕ → List Placed → Answer → Outcome
+abbrev pub outcome_by : ℕ → List PlacedPacket → Answer → Outcome
 outcome_by counter ms answers.Part = Part
 outcome_by counter ms (answers.Whole place) = Makes (heap_of counter (kept_shown ms))
 outcome_by counter ms answers.Stale = Stale
@@ -43,8 +43,8 @@ IsWholeBy e place (answers.Dropped cause) = Unit {0}
 
 -- the heap takes in the packet
 pub record TakesIn (old : LiveState) (place : ℕ) (p : Parts) (new : LiveState) (answer : Answer) : Type 0 where
-  pub stands : (ms : List Placed) (q : Placed) → q.packet ≡ p → HeapStandsFor (live_of old) ms → HeapStandsFor (live_of new) (ms ++ q ∷ [])
-  pub outcome : (ms : List Placed) (q : Placed) → q.packet ≡ p → HeapStandsFor (live_of old) ms
+  pub stands : (ms : List PlacedPacket) (q : PlacedPacket) → q.packet ≡ p → HeapStandsFor (live_of old) ms → HeapStandsFor (live_of new) (ms ++ q ∷ [])
+  pub outcome : (ms : List PlacedPacket) (q : PlacedPacket) → q.packet ≡ p → HeapStandsFor (live_of old) ms
       → member_outcome q.packet.counter (ms ++ q ∷ []) ≡ outcome_by q.packet.counter (ms ++ q ∷ []) answer
   pub same : is_left answer ≡ true → new ≡ old
   pub whole : IsWholeBy new place answer
@@ -104,7 +104,7 @@ pub record IsWholeAt (heaps : List LiveState) (place : ℕ) : Type 0 where
 
 -- the heap that is lent is the whole heap of the members that the heap at this place stands for
 abbrev pub IsLent : List LiveState → ℕ → WholeHeap → Type 0
-IsLent heaps place lent = (e : LiveState) (ms : List Placed) → slice_get heaps place ≡ Some e → HeapStandsFor (live_of e) ms → lent ≡ heap_of e.counter (kept_shown ms)
+IsLent heaps place lent = (e : LiveState) (ms : List PlacedPacket) → slice_get heaps place ≡ Some e → HeapStandsFor (live_of e) ms → lent ≡ heap_of e.counter (kept_shown ms)
 
 -- what is answered is the answer of the step, with the heap at its place
 abbrev pub Matches : List LiveState → Answer → Taken → Type 0

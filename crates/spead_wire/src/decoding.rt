@@ -5,9 +5,7 @@ ghost use Rattle.corr_model.specs.Packets.{Parts, Spells, front_refusal, pointer
 ghost use Rattle.spead_wire.specs.Reading.{IsReading};
 ghost use Rattle.spead_wire.specs.Widths.{HasPointerWidths};
 
-use crate::layout::{
-    COUNTER_ID, ID_WIDTH, LENGTH_ID, MAGIC, OFFSET_ID, SIZE_ID, VALUE_WIDTH, VERSION,
-};
+use crate::layout::{ID_WIDTH, MAGIC, VALUE_WIDTH, VERSION};
 use crate::packet::Packet;
 use crate::words::Words;
 use byteorder::{BigEndian, ByteOrder};
@@ -63,14 +61,15 @@ fn read_packet<'a>(words: Words<'a>, payload: &'a [u8]) -> Result<Packet<'a>, Re
     requires few { length words < 2 ^ 16 }
     ensures { IsReading words.entry payload.now result }
 {
-    let counter = words.last_value(COUNTER_ID).ok_or(Refusal::NoCounter)?;
-    let offset = words.last_value(OFFSET_ID).ok_or(Refusal::NoOffset)?;
-    let claimed = words.last_value(LENGTH_ID).ok_or(Refusal::NoLength)?;
+    let special = words.special();
+    let counter = special.counter.ok_or(Refusal::NoCounter)?;
+    let offset = special.offset.ok_or(Refusal::NoOffset)?;
+    let claimed = special.payload_len.ok_or(Refusal::NoLength)?;
     let found = payload.len() as u64;
     if claimed != found {
         return Err(Refusal::Length(claimed, found));
     }
-    let size = words.last_value(SIZE_ID);
+    let size = special.size;
     let end = offset + claimed;
     if size.is_some_and(|size| size < end) {
         return Err(Refusal::PastHeap);

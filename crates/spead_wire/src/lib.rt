@@ -8,6 +8,7 @@ mod numbers;
 mod packet;
 mod packet_head;
 mod pointers;
+mod special;
 mod words;
 
 pub use corr_model::{Pointer, Refusal};

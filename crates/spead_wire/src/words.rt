@@ -4,6 +4,7 @@ ghost use Rattle.std.specs.Prelude.{◌≡◌, ◌<◌, ◌≤◌, ◌+◌, ◌*
 ghost use Rattle.corr_model.specs.Packets.{pointer_of, words_in, last_value};
 
 use crate::layout::MODE;
+use crate::special::Special;
 use byteorder::{BigEndian, ByteOrder};
 use corr_model::Pointer;
 use std::marker::Model;
@@ -63,17 +64,18 @@ impl<'a> Words<'a> {
         }
     }
 
-    /// The value of the last immediate pointer with this id, if there is one.
-    pub(crate) fn last_value(&self, id: u32) -> Option<u64>
-        ensures { result ≡ last_value id self.now }
+    /// What the special pointers say, each read once.
+    pub(crate) fn special(&self) -> Special
+        ensures counter { result.counter ≡ last_value 1 self.now }
+        ensures size { result.size ≡ last_value 2 self.now }
+        ensures offset { result.offset ≡ last_value 3 self.now }
+        ensures payload_len { result.payload_len ≡ last_value 4 self.now }
     {
-        let mut value = None;
+        let mut special = Special::new();
         for pointer in self.iter() {
-            if pointer.immediate && pointer.id == id {
-                value = Some(pointer.value);
-            }
+            special.note(&pointer);
         }
-        value
+        special
     }
 }
 

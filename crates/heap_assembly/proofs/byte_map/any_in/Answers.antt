@@ -1,19 +1,17 @@
-use Rattle.std.proofs.Common.{◌*◌, sym, inl, inr, arith}
-use Rattle.std.proofs.lemmas.Bool.{cases_lt}
-use Rattle.heap_assembly.proofs.MarkLemmas.{any_from_none, none_seen, some_seen}
+use Rattle.std.proofs.Common.{◌*◌, ◌/◌, sym, ◌∙◌, arith}
+use Rattle.heap_assembly.specs.Marks.{mark_at}
+use Rattle.heap_assembly.proofs.MarkLemmas.{any_in_front, any_between, any_at_end}
 use Rattle.heap_assembly.proofs.byte_map.any_in.Goals as goal
 
-pub returns-then-words-word-ne0 : goal.returns-then-words-word-ne0
-returns-then-words-word-ne0 c =
-    sym (some_seen c.args.words.now c.loop-word.word c.mask_of.result c.args.from c.args.to c.if-words-word-ne0.true (omega (arith, c.type_inv.words c.loop-word.word)) c.mask_of.ensures.below c.mask_of.ensures.above)
+pub returns-then-any_by_masks : goal.returns-then-any_by_masks
+returns-then-any_by_masks c =
+    sym (any_in_front (mark_at c.args.words.now) c.args.from (64 * c.div_ceil-first.result) (64 * (c.args.to / 64)) c.args.to (omega arith) (omega arith) (omega arith) (sym c.any_by_masks-2.ensures ∙ c.if-any_by_masks.true))
 
-pub loop-word-preserved : goal.loop-word-preserved
-loop-word-preserved c =
-    λ i from to below. elim (cases_lt i (64 * c.loop-word.word)) [
-      | inl before ↦ c.loop-word.invariant i from to before
-      | inr here ↦ none_seen c.args.words.now c.loop-word.word c.mask_of.result c.args.from c.args.to i c.if-words-word-ne0.false c.mask_of.ensures.inside from to here below
-    ]
+pub returns-then-any_in_words : goal.returns-then-any_in_words
+returns-then-any_in_words c =
+    sym (any_between (mark_at c.args.words.now) c.args.from (64 * c.div_ceil-first.result) (64 * (c.args.to / 64)) c.args.to (omega arith) (omega arith) (omega arith) (sym c.any_in_words.ensures ∙ c.if-any_in_words.true))
 
 pub returns : goal.returns
 returns c =
-    sym (any_from_none _ c.args.from _ (λ i low high. c.loop-word.invariant i low (omega arith) (omega arith)))
+    c.any_by_masks-3.ensures
+    ∙ sym (any_at_end (mark_at c.args.words.now) c.args.from (64 * c.div_ceil-first.result) (64 * (c.args.to / 64)) c.args.to (omega arith) (omega arith) (omega arith) (sym c.any_by_masks-2.ensures ∙ c.if-any_by_masks.false) (sym c.any_in_words.ensures ∙ c.if-any_in_words.false))

@@ -1,13 +1,11 @@
-use Rattle.std.proofs.Common.{arith}
-use Rattle.heap_assembly.proofs.MarkLemmas.{marks_more_words, marks_none, marks_up_to}
+use Rattle.std.proofs.Common.{◌*◌, ◌/◌, arith}
+use Rattle.heap_assembly.specs.Marks.{mark_at}
+use Rattle.heap_assembly.proofs.MarkLemmas.{marks_then}
 use Rattle.heap_assembly.proofs.byte_map.mark.Goals as goal
 
-pub loop-word-init : goal.loop-word-init
-loop-word-init c = marks_none _ _ _ (omega arith)
-
-pub loop-word-preserved : goal.loop-word-preserved
-loop-word-preserved c =
-    marks_more_words _ c.loop-word.words c.loop-word.word c.mask_of.result c.args.from c.args.to c.loop-word.invariant (record { inside = c.mask_of.ensures.inside; below = c.mask_of.ensures.below; above = c.mask_of.ensures.above }) (omega arith)
-
 pub returns : goal.returns
-returns c = marks_up_to _ _ c.args.from _ c.args.to (omega arith) c.loop-word.invariant
+returns c =
+    let first = 64 * c.div_ceil-first.result in
+    let last = 64 * (c.args.to / 64) in
+    let front = marks_then (mark_at c.args.words.now) (mark_at c.mark_by_masks-2.new.words) (mark_at c.mark_words.new.words) c.args.from first last (omega arith) (omega arith) c.mark_by_masks-2.ensures c.mark_words.ensures in
+    marks_then (mark_at c.args.words.now) (mark_at c.mark_words.new.words) (mark_at c.mark_by_masks-3.new.words) c.args.from last c.args.to (omega arith) (omega arith) front c.mark_by_masks-3.ensures
