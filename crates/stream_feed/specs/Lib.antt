@@ -1,0 +1,5 @@
+pub mod Counting
+pub mod Opening
+pub mod Judging
+pub mod Feeding
+pub mod Keeping
