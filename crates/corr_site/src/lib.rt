@@ -6,6 +6,7 @@ mod gate;
 mod memory;
 mod packets;
 mod place;
+mod places;
 mod text;
 mod texts;
 
@@ -14,6 +15,7 @@ pub use gate::{Actor, ActorKind, Gate, NoGate};
 pub use memory::{ListPrint, ListSink, ListSource, ListText};
 pub use packets::{PacketSink, PacketSource};
 pub use place::Place;
+pub use places::Places;
 pub use text::Text;
 pub use texts::{TextSink, TextSource};
 

@@ -38,6 +38,17 @@ fn any_other_word_is_a_file(rt: HostRuntime) -> Result<(), Fail> {
 }
 
 #[test]
+fn places_are_given_back(rt: HostRuntime) -> Result<(), Fail> {
+    let first = Place::read(rt.alloc(), "a")?;
+    let second = Place::read(rt.alloc(), "udp:b:1")?;
+    let places = Places::from_vec(vec![in rt.alloc(); first, second]?);
+    assert_eq!(rt; places.as_slice().len(), 2);
+    let given = places.into_vec();
+    assert!(rt; given[1].udp);
+    Ok(())
+}
+
+#[test]
 fn a_text_is_its_copy(rt: HostRuntime) -> Result<(), Fail> {
     let text = Text::new(rt.alloc(), "run.toml")?;
     assert!(rt; text.is(&text.copy(rt.alloc())?));
