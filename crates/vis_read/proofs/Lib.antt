@@ -1,0 +1,10 @@
+pub mod Pieces
+pub mod HeapReads
+pub mod OutputReads
+pub mod ValueReads
+pub mod AddLemmas
+pub mod JudgeLemmas
+pub mod StandingLemmas
+pub mod DescribedLemmas
+pub mod RangeLemmas
+pub mod EndingLemmas

@@ -1,0 +1,8 @@
+pub mod Readings
+pub mod Examples
+pub mod Outputs
+pub mod Standing
+pub mod Views
+pub mod Steps
+pub mod Describing
+pub mod Endings

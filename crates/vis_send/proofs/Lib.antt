@@ -1,0 +1,9 @@
+pub mod TallyLemmas
+pub mod CountLemmas
+pub mod OutputLemmas
+pub mod PieceLemmas
+pub mod CutLemmas
+pub mod PutLemmas
+pub mod FillLemmas
+pub mod LineLemmas
+pub mod VisLemmas
