@@ -1,0 +1,230 @@
+//! Accumulations that go through the ring, by a back end that counts timestamps alone.
+
+ghost use Rattle.std.specs.Prelude.{◌≡◌, ◌<◌, [], true, refl, IfOk};
+ghost use Rattle.corr_model.specs.Plans.{Fits};
+
+use crate::{Gave, Held, Kind, Outgoing, Put, Ring, Stage, Stored, Took, Work};
+use corr_model::{Observation, Plan, Unheard};
+use slot_column::{Closed, Column};
+use std::alloc::{AllocError, Global};
+use std::marker::Model;
+use std::test::Fail;
+use vis_back::Backend;
+use vis_shape::Made;
+
+// A value without sums.
+#[derive(Drop)]
+struct Count {
+    plan: Plan,
+    added: u32,
+}
+
+impl Model for Count {
+    ghost use Rattle.std.specs.Prelude.{◌≤◌, []};
+    ghost use Rattle.vis_shape.specs.Sums.{Sums};
+
+    ghost Value = { Sums };
+
+    ghost view = { λ s. record { plan = s.plan; sums = []; added = s.added } };
+
+    ghost invariant = { λ s. s.added ≤ 4294967295 };
+}
+
+impl Made for Count {
+    ghost shown = { λ s. s };
+
+    fn merge(&mut self, part: &Self) {
+        self.added += part.added;
+    }
+}
+
+// It adds no sums.
+#[derive(Clone, Copy, Debug, PartialEq, Eq, Drop)]
+struct Counting;
+
+impl Backend for Counting {
+    type Out = Count;
+
+    ghost serves = { λ b p. true };
+
+    ghost size = { λ p. 0 };
+
+    ghost value = { λ b p cs from to. [] };
+
+    ghost shows = { true };
+
+    ghost fixed = { λ p cs from to. [] };
+
+    fn suits(&self, _plan: &Plan) -> bool {
+        true
+    }
+
+    fn make(&self, _alloc: Global, plan: &Plan) -> Result<Count, AllocError> {
+        Ok(Count {
+            plan: *plan,
+            added: 0,
+        })
+    }
+
+    fn clear(&self, out: &mut Count) {
+        out.added = 0;
+    }
+
+    fn add<O: Observation>(&self, _columns: &[Closed<O>], from: u32, to: u32, out: &mut Count) {
+        out.added += to - from;
+    }
+
+    fn added(&self, out: &Count) -> u32 {
+        out.added
+    }
+
+    ghost sized = { λ b p cs from to. refl };
+
+    ghost splits = { λ b p cs from mid to h k. refl };
+
+    ghost starts = { λ b p cs from. refl };
+
+    ghost local = { λ b p cs ds from to e. refl };
+}
+
+// Two antennas, three timestamps in each of four accumulations, and two slots.
+const PLAN: Plan = Plan {
+    antennas: 2,
+    channels: 1,
+    spectra: 1,
+    heaps: 3,
+    accumulations: 4,
+    lag: 1,
+    window: 8,
+    slots: 2,
+    workers: 1,
+    packet: 1024,
+    heap_limit: 4100,
+    beams: 0,
+    step: 1,
+    start: 0,
+    leap: 0,
+    packet_limit: 1 << 40,
+    preset: true,
+};
+
+// What a slot of the plan shows.
+fn held(number: u64, kind: Kind, columns: u32) -> Held {
+    Held {
+        plan: PLAN,
+        number,
+        kind,
+        columns,
+    }
+}
+
+// The closed column of an antenna and a number in which no heap was used.
+fn closed(
+    alloc: Global,
+    plan: &Plan,
+    antenna: u32,
+    number: u64,
+) -> Result<Closed<Unheard>, AllocError>
+    requires fits { Fits plan.now }
+    requires antenna { antenna < plan.now.antennas }
+    ensures { IfOk result (λ hand. hand.is_closed ≡ true) }
+{
+    let mut hand = Closed::spare(Column::new(alloc, plan)?);
+    hand.close_empty(antenna, number);
+    Ok(hand)
+}
+
+// Takes a slot's columns, computes their value, and stores it.
+fn work_on(
+    ring: &mut Ring<Unheard, Counting>,
+    slot: u32,
+    work: &mut Work<Unheard, Counting>,
+) -> Result<Stored, Took>
+    requires free { work.old.stage ≡ Stage.Free }
+    requires in_range { slot < work.old.plan.slots }
+{
+    let took = ring.take(slot, work);
+    if !matches!(took, Took::Taken) {
+        return Err(took);
+    }
+    work.compute(&Counting);
+    Ok(ring.store(work))
+}
+
+// The value may be handed to another thread.
+fn may_cross<T: Send>(_value: &T) {}
+
+#[test]
+fn an_accumulation_goes_round(rt: HostRuntime) -> Result<(), Fail> {
+    assert!(rt; PLAN.fits());
+    let alloc = rt.alloc();
+    let mut ring: Ring<Unheard, Counting> = Ring::new(alloc, &PLAN, &Counting)?;
+    let mut work = Work::new(alloc, &PLAN, &Counting)?;
+    let mut outgoing = Outgoing::new(alloc, &PLAN, &Counting)?;
+    may_cross(&ring);
+    may_cross(&work);
+    may_cross(&outgoing);
+    assert_eq!(rt; ring.put(&mut closed(alloc, &PLAN, 0, 0)?), Put::Placed);
+    assert_eq!(rt;
+        ring.send(0, &mut outgoing),
+        Gave::Not(held(0, Kind::Filling, 1))
+    );
+    assert_eq!(rt; ring.put(&mut closed(alloc, &PLAN, 1, 0)?), Put::Placed);
+    assert_eq!(rt; work_on(&mut ring, 0, &mut work), Ok(Stored::Stored));
+    assert!(rt; work.is_free());
+    assert_eq!(rt; ring.send(0, &mut outgoing), Gave::Given);
+    assert_eq!(rt; outgoing.number(), 0);
+    assert_eq!(rt; outgoing.out().added, 3);
+    let slots = ring.slots();
+    assert_eq!(rt; slots.len(), 2);
+    assert_eq!(rt; slots[0].held(), held(2, Kind::Filling, 0));
+    assert_eq!(rt; slots[1].held(), held(1, Kind::Filling, 0));
+    Ok(())
+}
+
+#[test]
+fn a_column_ahead_waits(rt: HostRuntime) -> Result<(), Fail> {
+    assert!(rt; PLAN.fits());
+    let alloc = rt.alloc();
+    let mut ring: Ring<Unheard, Counting> = Ring::new(alloc, &PLAN, &Counting)?;
+    let mut hand = closed(alloc, &PLAN, 1, 2)?;
+    assert_eq!(rt; ring.put(&mut hand), Put::Waits(held(0, Kind::Filling, 0)));
+    assert!(rt; !hand.is_spare());
+    assert_eq!(rt; hand.column().number(), 2);
+    Ok(())
+}
+
+#[test]
+fn a_slot_without_all_columns_is_not_taken(rt: HostRuntime) -> Result<(), Fail> {
+    assert!(rt; PLAN.fits());
+    let alloc = rt.alloc();
+    let mut ring: Ring<Unheard, Counting> = Ring::new(alloc, &PLAN, &Counting)?;
+    let mut work = Work::new(alloc, &PLAN, &Counting)?;
+    assert_eq!(rt; ring.put(&mut closed(alloc, &PLAN, 0, 1)?), Put::Placed);
+    assert_eq!(rt;
+        work_on(&mut ring, 1, &mut work),
+        Err(Took::Not(held(1, Kind::Filling, 1)))
+    );
+    assert!(rt; work.is_free());
+    Ok(())
+}
+
+#[test]
+fn a_value_that_no_slot_awaits_is_let_go(rt: HostRuntime) -> Result<(), Fail> {
+    assert!(rt; PLAN.fits());
+    let alloc = rt.alloc();
+    let mut ring: Ring<Unheard, Counting> = Ring::new(alloc, &PLAN, &Counting)?;
+    let mut other: Ring<Unheard, Counting> = Ring::new(alloc, &PLAN, &Counting)?;
+    let mut work = Work::new(alloc, &PLAN, &Counting)?;
+    assert_eq!(rt; ring.put(&mut closed(alloc, &PLAN, 0, 0)?), Put::Placed);
+    assert_eq!(rt; ring.put(&mut closed(alloc, &PLAN, 1, 0)?), Put::Placed);
+    if let Took::Taken = ring.take(0, &mut work) {
+        work.compute(&Counting);
+        assert_eq!(rt;
+            other.store(&mut work),
+            Stored::Old(held(0, Kind::Filling, 0))
+        );
+    }
+    assert!(rt; work.is_free());
+    Ok(())
+}

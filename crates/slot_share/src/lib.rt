@@ -1,0 +1,9 @@
+//! The ring under a lock: one call is one hold of it.
+#![tactic(auto)]
+
+mod share;
+
+pub use share::Share;
+
+#[cfg(test)]
+mod tests;
