@@ -1,0 +1,11 @@
+pub mod HearLemmas
+pub mod SetLemmas
+pub mod SourceLemmas
+pub mod StreamLemmas
+pub mod LoopLemmas
+pub mod ValueLemmas
+pub mod RunLemmas
+pub mod OutcomeLemmas
+pub mod SerialLemmas
+pub mod NewLemmas
+pub mod CrossLemmas

@@ -1,0 +1,5 @@
+use Rattle.corr_serial.proofs.SerialLemmas.{HasReports}
+use Rattle.corr_serial.proofs.serial.take_reports.Given as goal
+
+abbrev pub invariant-loop-antenna : goal.invariant-loop-antenna
+invariant-loop-antenna l = HasReports l.feeds l.antenna l.reports
