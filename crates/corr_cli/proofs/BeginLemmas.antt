@@ -6,7 +6,8 @@ use Rattle.std.proofs.lemmas.List.{get_or-set_same, get_or-set_other, get_or_def
 use Rattle.std.proofs.lemmas.Bool.{cases_lt}
 use Rattle.corr_site.specs.declared.place.Place.{Place}
 use Rattle.corr_site.specs.Outside.{Begins, IsPlaced, HasCause}
-use Rattle.corr_cli.specs.Sourcing.{AreBegun, KeepsEach, KeepsBelonging, AreSameFrom, ArePlaced, IsNowAt}
+use Rattle.corr_serial.specs.Sources.{AreBegun, KeepsEach, KeepsBelonging, AreSameFrom}
+use Rattle.corr_cli.specs.Beginning.{ArePlaced, IsNowAt}
 
 -- a number is another one or not
 pub cases_same : (m n : ℕ) → (m ≡ n) ⊎ (m ≢ n)
@@ -72,7 +73,7 @@ kept_result : {T E : Type 0} (r : Result T E) (before now : ℕ) → false ≡ i
 kept_result (Ok x) before now ok h = h.kept
 kept_result (Err e) before now ok h = absurd cc
 
-placed_result : {P T E : Type 0} (before now : Option (Option P)) (r : Result T E) (place : P) → false ≡ is_err r → IsPlaced before now r place → IsNowAt before now (Some place)
+pub placed_result : {P T E : Type 0} (before now : Option (Option P)) (r : Result T E) (place : P) → false ≡ is_err r → IsPlaced before now r place → IsNowAt before now (Some place)
 placed_result None now r place ok h = h
 placed_result (Some before) now (Ok x) place ok h = h
 placed_result (Some before) now (Err e) place ok h = absurd cc

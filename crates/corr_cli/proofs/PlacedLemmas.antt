@@ -1,16 +1,15 @@
 -- Sources and a sink that are begun at their own places.
 use Rattle.std.proofs.Common.{◌≡◌, ◌<◌, ◌≤◌, ◌+◌, ℕ, Bool, true, false, List, length, get_or, Option, Some, None, sym, ◌∙◌, ap, subst, arith, inl, inr}
-use Rattle.std.specs.Prelude.{option_map}
 use Rattle.std.specs.List.{All}
 use Rattle.std.proofs.lemmas.List.Elements.{All-get_or}
 use Rattle.std.proofs.lemmas.Bool.{cases_lt}
 use Rattle.corr_site.specs.declared.place.Place.{Place}
-use Rattle.corr_cli.specs.Words.{PlainWords, form}
-use Rattle.corr_cli.specs.Sourcing.{IsNowAt, ArePlaced, ArePlacedBefore, AreBegunBefore, AreSameFrom, KeepsEach}
+use Rattle.corr_serial.specs.Sources.{AreSameFrom, KeepsEach}
+use Rattle.corr_cli.specs.Beginning.{IsNowAt, ArePlaced, ArePlacedBefore, AreBegunBefore}
 use Rattle.corr_cli.specs.Placing.{IsAtOwn, AreAtOwn}
 use Rattle.corr_cli.proofs.BeginLemmas.{cases_same}
 
-own_of : {P : Type 0} (before now : Option (Option P)) (begun : Bool) (own : P) → IsNowAt before now (Some own) → IsAtOwn begun now own
+pub own_of : {P : Type 0} (before now : Option (Option P)) (begun : Bool) (own : P) → IsNowAt before now (Some own) → IsAtOwn begun now own
 own_of None now begun own h = λ is told e. absurd (let both : None ≡ Some told = sym h ∙ e in cc)
 own_of (Some before) now begun own h = λ is told e. let both : Some (Some own) ≡ Some told = sym h ∙ e in cc
 
@@ -60,10 +59,3 @@ placed_later at places count old mid now placed keeps = record { each = λ a d p
 
 pub same_later : {S : Type 0} (count : ℕ) (old mid now : List S) → AreSameFrom count old mid → AreSameFrom count mid now → AreSameFrom count old now
 same_later count old mid now first second = record { each = λ a d past. second.each a d past ∙ first.each a d past }
-
--- the words of the inputs are those of the form
-pub inputs_of : (words : List (List ℕ)) (said : PlainWords) (inputs : List (List ℕ)) → option_map (λ p. p.inputs) (form words) ≡ Some inputs → form words ≡ Some said → inputs ≡ said.inputs
-inputs_of words said inputs h is = let both : option_map (λ p. p.inputs) (Some said) ≡ Some inputs = subst (λ o. option_map (λ p. p.inputs) o ≡ Some inputs) is h in cc
-
-pub output_of : (words : List (List ℕ)) (said : PlainWords) (word : List ℕ) → option_map (λ p. p.output) (form words) ≡ Some word → form words ≡ Some said → word ≡ said.output
-output_of words said word h is = let both : option_map (λ p. p.output) (Some said) ≡ Some word = subst (λ o. option_map (λ p. p.output) o ≡ Some word) is h in cc

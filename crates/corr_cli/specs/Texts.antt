@@ -1,77 +1,68 @@
 -- What the program prints and the code with which it ends. This project's own.
-use Rattle.std.specs.Prelude.{◌≡◌, ◌⊎◌, ℕ, ◌==◌, List, [], ◌++◌, Option, Some, None, codes, decimal, if◌then◌else◌}
+use Rattle.std.specs.Prelude.{◌≡◌, ◌⊎◌, ℕ, ◌==◌, ◌+◌, ◌^◌, ◌<◌, true, List, [], ◌∷◌, ◌++◌, length, slice_index_or, Option, Some, None, is_some, if◌then◌else◌}
 use Rattle.corr_site.specs.Outside.{Rises, Appended, AppendsFront}
-use Rattle.corr_cli.specs.declared.settings.Key.{Key}
-use Rattle.corr_cli.specs.declared.settings.Key.TheVariants.{Antennas, Channels, Spectra, Heaps, Accumulations}
-use Rattle.corr_cli.specs.declared.settings.SetRefusal.{SetRefusal}
-use Rattle.corr_cli.specs.declared.settings.SetRefusal.TheVariants.{Range, TooLarge}
+use Rattle.corr_settings.specs.Named.{HasShortName}
+use Rattle.stream_feed.specs.declared.report.StreamReport.{StreamReport}
+use Rattle.corr_report.specs.Texts.{settings_text, status_text, usage_text}
+use Rattle.corr_report.specs.Summaries.{stream_text, summary_text}
+use Rattle.corr_report.specs.declared.status.StatusLine.TheVariants as status
 use Rattle.corr_cli.specs.declared.answer.Answer.{Answer}
-use Rattle.corr_cli.specs.declared.answer.Answer.TheVariants.{Usage, Settings, NotBegun, Sent, SinkFault, NoMemory}
+use Rattle.corr_cli.specs.declared.answer.Answer.TheVariants.{Usage, SettingsFault, Settings, NotBegun, Sent, Summed, SinkFault, NoMemory}
+
+-- the code of a run that sent all
+abbrev pub code_after : Option ℕ → ℕ
+code_after None = 0
+code_after (Some antenna) = 3
 
 -- the code of what a run comes to
 abbrev pub code_of : Answer → ℕ
 code_of Usage = 1
 code_of (Settings refusal) = 2
 code_of (NotBegun antenna) = 3
-code_of (Sent packets None) = 0
-code_of (Sent packets (Some antenna)) = 3
+code_of (Sent packets fault) = code_after fault
+code_of (Summed sent reports fault) = code_after fault
 code_of SinkFault = 4
 code_of NoMemory = 5
-
--- the lines on how the program is called
-unfoldable pub usage : List ℕ
-usage =
-    codes "usage:\n"
-    ++ codes "spead_corr plain A F S T N IN.. OUT\n"
-    ++ codes "spead_corr correlate [--serial] CONFIG\n"
-    ++ codes "spead_corr trial [--serial] CONFIG SEED\n"
-    ++ codes "spead_corr simulate CONFIG SEED ANTENNA OUT\n"
-    ++ codes "spead_corr relay FROM TO LIMIT\n"
-    ++ codes "spead_corr inspect IN\n"
-    ++ codes "spead_corr decode IN LIMIT\n"
-
--- a key as it is printed
-abbrev pub key_name : Key → List ℕ
-key_name Antennas = codes "antennas"
-key_name Channels = codes "channels"
-key_name Spectra = codes "spectra"
-key_name Heaps = codes "heaps"
-key_name Accumulations = codes "accumulations"
-
--- a line of a text, a number and a text
-abbrev pub number_line : List ℕ → ℕ → List ℕ → List ℕ
-number_line before n after = before ++ decimal n ++ after
-
--- the line on refused settings
-abbrev pub refusal_line : SetRefusal → List ℕ
-refusal_line (Range key value) = codes "settings: range " ++ key_name key ++ codes " " ++ decimal value ++ codes "\n"
-refusal_line (TooLarge bytes) = number_line (codes "settings: too large ") bytes (codes "\n")
-
--- the line on a source that failed
-abbrev pub source_line : ℕ → List ℕ
-source_line antenna = number_line (codes "source fault ") antenna (codes "\n")
-
--- the line on the packets that were sent
-abbrev pub sent_line : ℕ → List ℕ
-sent_line packets = number_line (codes "sent ") packets (codes " packets\n")
+code_of SettingsFault = 8
 
 -- the line on a source that failed after the run began, if one did
-abbrev pub later_line : Option ℕ → List ℕ
-later_line None = []
-later_line (Some antenna) = source_line antenna
+abbrev pub later_text : Option ℕ → List ℕ
+later_text None = []
+later_text (Some antenna) = status_text (status.SourceFault antenna)
+
+-- a line on each stream, in order from this antenna on
+abbrev pub streams_text : ℕ → List StreamReport → List ℕ
+streams_text antenna [] = []
+streams_text antenna (r ∷ rs) = stream_text antenna r ++ streams_text (antenna + 1) rs
 
 -- the whole printed text
 abbrev pub text_of : Answer → List ℕ
-text_of Usage = usage
-text_of (Settings refusal) = refusal_line refusal
-text_of (NotBegun antenna) = source_line antenna
-text_of (Sent packets fault) = sent_line packets ++ later_line fault
-text_of SinkFault = codes "sink fault\n"
-text_of NoMemory = codes "no memory\n"
+text_of Usage = usage_text
+text_of SettingsFault = status_text status.SettingsFault
+text_of (Settings refusal) = settings_text refusal
+text_of (NotBegun antenna) = status_text (status.SourceFault antenna)
+text_of (Sent packets fault) = status_text (status.Sent packets) ++ later_text fault
+text_of (Summed sent reports fault) = summary_text sent ++ (streams_text 0 reports ++ later_text fault)
+text_of SinkFault = status_text status.SinkFault
+text_of NoMemory = status_text status.NoMemory
+
+-- each stream has ended
+pub record HaveEnded (reports : List StreamReport) : Type 0 where
+  pub few : length reports < 2 ^ 32
+  pub each : (a : ℕ) (r : StreamReport) → a < length reports → is_some (slice_index_or reports a r).ended ≡ true
+
+-- the text of the answer can be put together: a key's name is short, and each stream has ended
+abbrev pub IsPrintable : Answer → Type 0
+IsPrintable (Settings refusal) = HasShortName refusal
+IsPrintable (Summed sent reports fault) = HaveEnded reports
+IsPrintable other = Unit {0}
 
 -- the code after the text was not printed whole: 6 in place of 0
+abbrev pub unprinted : ℕ → ℕ
+unprinted code = if code == 0 then 6 else code
+
 abbrev pub unprinted_code : Answer → ℕ
-unprinted_code answer = if code_of answer == 0 then 6 else code_of answer
+unprinted_code answer = unprinted (code_of answer)
 
 -- the whole text was printed, no fault was counted, and the code is the answer's
 pub record TellsWhole (before now : Option (List ℕ)) (faults_before faults : ℕ) (answer : Answer) (code : ℕ) : Type 0 where

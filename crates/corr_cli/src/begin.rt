@@ -1,7 +1,8 @@
 //! Beginning the sources, in order of antenna.
 
 ghost use Rattle.std.specs.Prelude.{◌≡◌, ◌≤◌, length};
-ghost use Rattle.corr_cli.specs.Sourcing.{KeepsEach, KeepsBelonging, AreSameFrom, BeginsEach, PlacesEach, BeginHasCause, reached};
+ghost use Rattle.corr_serial.specs.Sources.{KeepsEach, KeepsBelonging, AreSameFrom};
+ghost use Rattle.corr_cli.specs.Beginning.{BeginsEach, PlacesEach, BeginHasCause, reached};
 
 use corr_model::Observation;
 use corr_site::{Failed, PacketSource, Place};

@@ -56,15 +56,16 @@ enum Record {
 }
 
 // A count with one more fault, which stands at its end once it is there.
-fn one_more(faults: u64) -> u64
+pub(crate) fn one_more(faults: u64) -> u64
     ensures { Rises faults result }
 {
     faults.saturating_add(1)
 }
 
 // Reads until the buffer is full or the file ends, and answers how many bytes there were.
-fn fill<F: Read>(file: &mut F, buf: &mut [u8]) -> Option<usize>
+pub(crate) fn fill<F: Read>(file: &mut F, buf: &mut [u8]) -> Option<usize>
     ensures fits { IfSome result (λ n. n ≤ length buf.old) }
+    ensures length { length buf.new ≡ length buf.old }
 {
     let mut at = 0;
     for _ in 0..u64::MAX {

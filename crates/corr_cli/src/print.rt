@@ -1,9 +1,11 @@
-//! Standard output as a sink of text, and the settings source of a program that reads no settings.
+//! Standard output as a sink of text, and a file as a source of settings.
 
-ghost use Rattle.std.specs.Prelude.{◌≡◌, None, false};
-ghost use Rattle.corr_site.specs.Outside.{Rises};
+ghost use Rattle.std.specs.Prelude.{◌≡◌, ◌≤◌, None, IfSome, false, is_some, length};
 
+use crate::capture::{fill, one_more};
 use corr_site::{Failed, Got, Text, TextSink, TextSource};
+use std::fs;
+use std::rt::Files;
 
 /// Standard output. It tells nothing of what was written.
 #[derive(Drop)]
@@ -35,51 +37,67 @@ impl<R: Print> TextSink for StdPrint<'_, R> {
     }
 }
 
-/// A source of settings that can't be begun.
+/// A file of settings. It tells nothing of its text.
 #[derive(Drop)]
-pub struct NoSettings {
-    // Never true. A source that could not be begun by its type would have no call of `read` at all.
-    is_begun: bool,
+pub struct FileText<'a, R: Files> {
+    files: &'a R,
+    file: Option<R::File>,
     faults: u64,
 }
 
-impl NoSettings {
-    /// The source with no fault yet.
-    pub fn new() -> Self
-        ensures { result.is_begun ≡ false }
+impl<'a, R: Files> FileText<'a, R> {
+    /// A text that is not begun.
+    pub fn new(files: &'a R) -> Self
+        ensures { is_some result.file ≡ false }
     {
-        NoSettings {
-            is_begun: false,
+        FileText {
+            files,
+            file: None,
             faults: 0,
         }
     }
 
-    // Counts a fault.
-    fn fail(&mut self) -> Failed
-        ensures begun { self.new.is_begun ≡ self.old.is_begun }
-        ensures cause { Rises self.old.faults self.new.faults }
+    // Reads from the open file to the front of the buffer, and answers how many bytes there were.
+    fn fill(&mut self, buf: &mut [u8]) -> Option<usize>
+        ensures fits { IfSome result (λ n. n ≤ length buf.old) }
+        ensures open { is_some self.new.file ≡ is_some self.old.file }
+        ensures faults { self.new.faults ≡ self.old.faults }
+        ensures length { length buf.new ≡ length buf.old }
     {
-        self.faults = self.faults.saturating_add(1);
-        Failed
+        match &mut self.file {
+            Some(file) => fill(file, buf),
+            None => None,
+        }
     }
 }
 
-impl TextSource for NoSettings {
+impl<R: Files> TextSource for FileText<'_, R> {
     ghost left = { λ _. None };
 
-    ghost begun = { λ s. s.is_begun };
+    ghost begun = { λ s. is_some s.file };
 
     ghost at = { λ _. None };
 
     ghost faults = { λ s. s.faults };
 
-    fn begin(&mut self, _path: &Text) -> Result<(), Failed> {
-        self.is_begun = false;
-        Err(self.fail())
+    fn begin(&mut self, path: &Text) -> Result<(), Failed> {
+        if let Ok(file) = fs::open(self.files, path.as_str()) {
+            self.file = Some(file);
+            return Ok(());
+        }
+        self.file = None;
+        self.faults = one_more(self.faults);
+        Err(Failed)
     }
 
-    fn read(&mut self, _buf: &mut [u8]) -> Got {
-        self.fail();
-        Got::Failed
+    fn read(&mut self, buf: &mut [u8]) -> Got {
+        match self.fill(buf) {
+            Some(0) => Got::End,
+            Some(len) => Got::Bytes(len),
+            None => {
+                self.faults = one_more(self.faults);
+                Got::Failed
+            }
+        }
     }
 }

@@ -1,35 +1,34 @@
 //! One run of the program, over any sources and any sink.
 
-ghost use Rattle.std.specs.Prelude.{◌≡◌, ◌↔◌, ◌⊎◌, ℕ, ◌<◌, ◌≤◌, Bool, true, false, List, Option, Some, IfOk, IsNone, All, length, map, string_bytes};
-ghost use Rattle.corr_model.specs.declared.plan.Plan.{Plan};
+ghost use Rattle.std.specs.Prelude.{◌≡◌, ◌↔◌, ◌⊎◌, ℕ, ◌<◌, ◌≤◌, Bool, true, false, List, Option, Some, IsNone, All, length, map, string_bytes};
 ghost use Rattle.corr_model.specs.Plans.{Fits};
 ghost use Rattle.corr_model.specs.Outputs.{output};
 ghost use Rattle.corr_site.specs.Outside.{Appended, Rises, Rose};
-ghost use Rattle.corr_site.specs.Places.{place_of};
-ghost use Rattle.corr_cli.specs.Words.{PlainWords, form, HasNumbers};
-ghost use Rattle.corr_cli.specs.Settings.{plan_of};
+ghost use Rattle.corr_words.specs.declared.command.Command.TheVariants.{Correlate};
+ghost use Rattle.corr_settings.specs.declared.settings.Settings.{Settings};
+ghost use Rattle.corr_serial.specs.Sources.{AreBegun, AreSameFrom, KeepsEach};
+ghost use Rattle.corr_serial.specs.Runs.{AreGiven, GaveTaken, NoneRose, list_of};
+ghost use Rattle.corr_cli.specs.Said.{AreRefused, HasRun, form_of, needs_text};
 ghost use Rattle.corr_cli.specs.Placing.{IsAtOwn, AreAtOwn};
-ghost use Rattle.corr_cli.specs.Texts.{Tells};
-ghost use Rattle.corr_cli.specs.Sending.{AppendsPackets};
-ghost use Rattle.corr_cli.specs.Sourcing.{AreBegun, AreSameFrom, KeepsEach};
-ghost use Rattle.corr_cli.specs.Runs.{AreRefused, HasPlan, WordsSay, Correlates, RunsPlan, Comes, RanAs, AreGiven, GaveTaken, IsWhole, FaultOfSource, NoneRose, list_of};
+ghost use Rattle.corr_cli.specs.Texts.{IsPrintable, Tells};
+ghost use Rattle.corr_cli.specs.Runs.{AppendsPackets, Comes, FaultOfSource, IsOverBegun, IsRefusedAs, IsUntouched, IsWhole, RanAs, RefusedCode, RunsPlan, answer_of, sent_answer};
 
 use crate::answer::{Answer, Status};
 use crate::begin::begin_all;
-use crate::reading::gather;
 use crate::report::tell;
-use crate::sender::send_output;
-use crate::settings::settings_of;
-use crate::visibilities::room_for_visibilities;
-use crate::words::{Numbers, inputs, output, read_places, read_words};
-use corr_model::{Observation, Plan};
-use corr_site::{NoMemory, PacketSink, PacketSource, Place, TextSink, TextSource};
+use crate::said::{Asked, Telling, said};
+use corr_model::Observation;
+use corr_serial::{Outcome, Prepared, Ran, Reports, correlate_serial, prepare};
+use corr_site::{PacketSink, PacketSource, Place, TextSink, TextSource};
 use std::alloc::Global;
+use vis_accum::Cross;
+use vis_send::{Sender, Sent};
 
 /// Runs the command of the words over the first of the sources and the sink, and prints its text.
+/// The settings source gives the text of the settings, where the command names one.
 ///
 /// `output` is the correlation theorem: where the status is 0 or 6, or 3 with all of the plan's
-/// sources begun, exactly the output that the definitions give for the plan of the words and for
+/// sources begun, exactly the output that the definitions give for the plan of the run and for
 /// the byte strings that these sources give was appended to what the sink got.
 pub fn run_returning<O: Observation, S: PacketSource<O>, K: PacketSink, P: TextSink, D: TextSource>(
     alloc: Global,
@@ -46,40 +45,49 @@ pub fn run_returning<O: Observation, S: PacketSource<O>, K: PacketSink, P: TextS
 
     // What stays.
     ensures length { length sources.new ≡ length sources.old }
-    ensures settings_source { settings.new ≡ settings.old }
+    ensures settings_source { needs_text (map string_bytes words.now) ≡ false → settings.new ≡ settings.old }
+    ensures unused { (run : Settings) → HasRun (map string_bytes words.now) (D.left settings.old) run
+        → AreSameFrom run.plan.antennas sources.old sources.new }
+    ensures no_memory { result.code ≡ 5
+        → IsUntouched sources.old sources.new (K.begun sink.new) (K.sent sink.old) (K.sent sink.new) }
 
     // The correlation theorem: what is sent, what is taken, and what is begun.
-    ensures output { (plan : Plan) (lists : List (List (List ℕ))) → HasPlan (map string_bytes words.now) plan
-        → AreGiven plan S.gives S.given sources.old lists → IsWhole result.code S.begun plan sources.new
-        → Appended (K.sent sink.old) (output plan (list_of lists)) (K.sent sink.new) }
-    ensures taken { (plan : Plan) → HasPlan (map string_bytes words.now) plan
-        → IsWhole result.code S.begun plan sources.new
-        → GaveTaken plan S.gives S.given sources.old sources.new }
-    ensures front { (plan : Plan) (lists : List (List (List ℕ))) → HasPlan (map string_bytes words.now) plan
-        → AreGiven plan S.gives S.given sources.old lists → result.code ≡ 4
-        → AppendsPackets (K.sent sink.old) (K.sent sink.new) (output plan (list_of lists)) }
-    ensures begun { (plan : Plan) → HasPlan (map string_bytes words.now) plan
+    ensures output { (run : Settings) (lists : List (List (List ℕ))) → HasRun (map string_bytes words.now) (D.left settings.old) run
+        → AreGiven run.plan S.gives S.given sources.old lists → IsWhole result.code S.begun run.plan sources.new
+        → Appended (K.sent sink.old) (output run.plan (list_of lists)) (K.sent sink.new) }
+    ensures taken { (run : Settings) → HasRun (map string_bytes words.now) (D.left settings.old) run
+        → IsWhole result.code S.begun run.plan sources.new
+        → GaveTaken run.plan S.gives S.given sources.old sources.new }
+    ensures front { (run : Settings) (lists : List (List (List ℕ))) → HasRun (map string_bytes words.now) (D.left settings.old) run
+        → AreGiven run.plan S.gives S.given sources.old lists → result.code ≡ 4
+        → AppendsPackets (K.sent sink.old) (K.sent sink.new) (output run.plan (list_of lists)) }
+    ensures begun { (run : Settings) → HasRun (map string_bytes words.now) (D.left settings.old) run
         → (result.code ≡ 0) ⊎ (result.code ≡ 6)
-        → AreBegun S.begun plan.antennas sources.new × (K.begun sink.new ≡ true) }
-    ensures at_sources { (said : PlainWords) → form (map string_bytes words.now) ≡ Some said
-        → AreAtOwn S.begun S.at (map place_of said.inputs) sources.new }
-    ensures at_sink { (said : PlainWords) → form (map string_bytes words.now) ≡ Some said
-        → IsAtOwn (K.begun sink.new) (K.at sink.new) (place_of said.output) }
+        → AreBegun S.begun run.plan.antennas sources.new × (K.begun sink.new ≡ true) }
+    ensures at_sources { (run : Settings) → HasRun (map string_bytes words.now) (D.left settings.old) run
+        → AreAtOwn S.begun S.at run.inputs sources.new }
+    ensures at_sink { (run : Settings) → HasRun (map string_bytes words.now) (D.left settings.old) run
+        → IsAtOwn (K.begun sink.new) (K.at sink.new) run.output }
+    ensures at_settings { (config : List ℕ) (serial : Bool) → form_of (map string_bytes words.now) ≡ Some (Correlate config serial)
+        → IsAtOwn (D.begun settings.new) (D.at settings.new) config }
 
     // The causes of the statuses.
-    ensures usage { (result.code ≡ 1) ↔ IsNone (form (map string_bytes words.now)) }
-    ensures settings { (result.code ≡ 2) ↔ AreRefused (map string_bytes words.now) }
-    ensures source_fault { (plan : Plan) → HasPlan (map string_bytes words.now) plan → result.code ≡ 3
-        → FaultOfSource plan S.begun S.faults sources.old sources.new (K.sent sink.old) (K.sent sink.new) }
+    ensures usage { (result.code ≡ 1) ↔ IsNone (form_of (map string_bytes words.now)) }
+    ensures settings { result.code ≡ 2 → IsRefusedAs (map string_bytes words.now) (D.left settings.old) }
+    ensures refused { AreRefused (map string_bytes words.now) (D.left settings.old) → RefusedCode (map string_bytes words.now) result.code }
+    ensures settings_fault { result.code ≡ 8 → Rises (D.faults settings.old) (D.faults settings.new) }
+    ensures source_fault { (run : Settings) → HasRun (map string_bytes words.now) (D.left settings.old) run → result.code ≡ 3
+        → FaultOfSource run.plan S.begun S.faults sources.old sources.new (K.sent sink.old) (K.sent sink.new) }
     ensures sink_fault { result.code ≡ 4 → Rises (K.faults sink.old) (K.faults sink.new) }
     ensures print_fault { result.code ≡ 6 → Rises (P.faults print.old) (P.faults print.new) }
-    ensures done { (plan : Plan) → HasPlan (map string_bytes words.now) plan → result.code ≡ 0
+    ensures done { result.code ≡ 0
         → KeepsEach S.faults sources.old sources.new × (K.faults sink.new ≡ K.faults sink.old)
-        × (P.faults print.new ≡ P.faults print.old) }
-    ensures whole { (plan : Plan) → HasPlan (map string_bytes words.now) plan
-        → NoneRose plan S.faults sources.old sources.new
+        × (P.faults print.new ≡ P.faults print.old) × (D.faults settings.new ≡ D.faults settings.old) }
+    ensures whole { (run : Settings) → HasRun (map string_bytes words.now) (D.left settings.old) run
+        → NoneRose run.plan S.faults sources.old sources.new
         → (Rose (K.faults sink.old) (K.faults sink.new) → ⊥)
         → (Rose (P.faults print.old) (P.faults print.new) → ⊥)
+        → (Rose (D.faults settings.old) (D.faults settings.new) → ⊥)
         → (result.code ≡ 0) ⊎ (result.code ≡ 5) }
 
     // The answer that the run came to, with all that is known of it, and its text.
@@ -97,9 +105,13 @@ pub fn run_returning<O: Observation, S: PacketSource<O>, K: PacketSink, P: TextS
           sink_faults = K.faults sink.new;
           sink_begun = K.begun sink.new;
         })
+        (record { text = D.left settings.old; faults_before = D.faults settings.old; faults = D.faults settings.new })
         (P.written print.old) (P.written print.new) (P.faults print.old) (P.faults print.new) result.code }
 {
-    tell(&answer::<O, S, K>(alloc, words, sources, sink), print)
+    tell(
+        &answer::<O, S, K, D>(alloc, words, settings, sources, sink),
+        print,
+    )
 }
 
 /// Prints that there is no memory, as a program does that could not even make its sources.
@@ -110,21 +122,28 @@ pub fn no_memory<P: TextSink>(print: &mut P) -> Status
 }
 
 // What the run of the words comes to.
-fn answer<O: Observation, S: PacketSource<O>, K: PacketSink>(
+fn answer<O: Observation, S: PacketSource<O>, K: PacketSink, D: TextSource>(
     alloc: Global,
     words: &[String],
+    settings: &mut D,
     sources: &mut [S],
     sink: &mut K,
 ) -> Answer
     requires sources { length sources.old ≡ 64 }
     requires none_begun { All (λ s. S.begun s ≡ false) sources.old }
     requires sink { K.begun sink.old ≡ false }
+    requires settings { D.begun settings.old ≡ false }
     ensures length { length sources.new ≡ length sources.old }
-    ensures at_sources { (said : PlainWords) → form (map string_bytes words.now) ≡ Some said
-        → AreAtOwn S.begun S.at (map place_of said.inputs) sources.new }
-    ensures at_sink { (said : PlainWords) → form (map string_bytes words.now) ≡ Some said
-        → IsAtOwn (K.begun sink.new) (K.at sink.new) (place_of said.output) }
-    ensures words { WordsSay (map string_bytes words.now) result }
+    ensures settings_source { needs_text (map string_bytes words.now) ≡ false → settings.new ≡ settings.old }
+    ensures unused { (run : Settings) → HasRun (map string_bytes words.now) (D.left settings.old) run
+        → AreSameFrom run.plan.antennas sources.old sources.new }
+    ensures at_sources { (run : Settings) → HasRun (map string_bytes words.now) (D.left settings.old) run
+        → AreAtOwn S.begun S.at run.inputs sources.new }
+    ensures at_sink { (run : Settings) → HasRun (map string_bytes words.now) (D.left settings.old) run
+        → IsAtOwn (K.begun sink.new) (K.at sink.new) run.output }
+    ensures at_settings { (config : List ℕ) (serial : Bool) → form_of (map string_bytes words.now) ≡ Some (Correlate config serial)
+        → IsAtOwn (D.begun settings.new) (D.at settings.new) config }
+    ensures printable { IsPrintable result }
     ensures comes { Comes (map string_bytes words.now)
         (record {
           gives = S.gives;
@@ -138,43 +157,33 @@ fn answer<O: Observation, S: PacketSource<O>, K: PacketSink>(
           sink_faults_before = K.faults sink.old;
           sink_faults = K.faults sink.new;
           sink_begun = K.begun sink.new;
-        }) result }
+        })
+        (record { text = D.left settings.old; faults_before = D.faults settings.old; faults = D.faults settings.new }) result }
 {
-    let numbers = match read_words(words) {
-        Some(numbers) => numbers,
-        None => return Answer::Usage,
-    };
-    let plan = match settings_of(&numbers) {
-        Ok(plan) => plan,
-        Err(refusal) => return Answer::Settings(refusal),
-    };
-    match run_plan::<O, S, K>(alloc, &plan, words, numbers, sources, sink) {
-        Ok(answer) => answer,
-        Err(NoMemory) => Answer::NoMemory,
+    match said(alloc, words, settings) {
+        Ok(asked) => run_asked::<O, S, K>(alloc, asked, sources, sink),
+        Err(answer) => answer,
     }
 }
 
-// Begins the sources and the sink at the places of the words, correlates and sends.
-fn run_plan<O: Observation, S: PacketSource<O>, K: PacketSink>(
+// Runs what was asked for. All memory is taken before anything is begun.
+fn run_asked<O: Observation, S: PacketSource<O>, K: PacketSink>(
     alloc: Global,
-    plan: &Plan,
-    words: &[String],
-    numbers: Numbers,
+    asked: Asked,
     sources: &mut [S],
     sink: &mut K,
-) -> Result<Answer, NoMemory>
-    requires words { HasNumbers (map string_bytes words.now) numbers }
-    requires plan { plan.now ≡ plan_of numbers }
-    requires fits { Fits plan.now }
+) -> Answer
+    requires fits { Fits asked.settings.plan }
+    requires inputs { length asked.settings.inputs ≡ asked.settings.plan.antennas }
     requires sources { length sources.old ≡ 64 }
     requires none_begun { All (λ s. S.begun s ≡ false) sources.old }
     requires sink { K.begun sink.old ≡ false }
     ensures length { length sources.new ≡ length sources.old }
-    ensures at_sources { (said : PlainWords) → form (map string_bytes words.now) ≡ Some said
-        → AreAtOwn S.begun S.at (map place_of said.inputs) sources.new }
-    ensures at_sink { (said : PlainWords) → form (map string_bytes words.now) ≡ Some said
-        → IsAtOwn (K.begun sink.new) (K.at sink.new) (place_of said.output) }
-    ensures runs { RunsPlan plan.now
+    ensures unused { AreSameFrom asked.settings.plan.antennas sources.old sources.new }
+    ensures at_sources { AreAtOwn S.begun S.at asked.settings.inputs sources.new }
+    ensures at_sink { IsAtOwn (K.begun sink.new) (K.at sink.new) asked.settings.output }
+    ensures printable { IsPrintable result }
+    ensures runs { RunsPlan asked.telling asked.settings.plan
         (record {
           gives = S.gives;
           given = S.given;
@@ -189,30 +198,70 @@ fn run_plan<O: Observation, S: PacketSource<O>, K: PacketSink>(
           sink_begun = K.begun sink.new;
         }) result }
 {
-    let places = read_places(alloc, inputs(words, numbers))?;
-    let place = Place::read(alloc, output(words, numbers))?;
-    if let Err(antenna) = begin_all::<O, S>(sources, places.as_slice()) {
-        return Ok(Answer::NotBegun(antenna));
+    match prepare(alloc, &asked.settings.plan) {
+        Ok(prepared) => run_prepared::<O, S, K>(prepared, &asked, sources, sink),
+        Err(_) => Answer::NoMemory,
     }
-    run_begun::<O, S, K>(alloc, plan, &place, sources, sink)
+}
+
+// Begins the sources at their places, correlates and sends.
+fn run_prepared<O: Observation, S: PacketSource<O>, K: PacketSink>(
+    prepared: Prepared<Cross, Sender>,
+    asked: &Asked,
+    sources: &mut [S],
+    sink: &mut K,
+) -> Answer
+    requires plan { prepared.plan ≡ asked.now.settings.plan }
+    requires fits { Fits prepared.plan }
+    requires inputs { length asked.now.settings.inputs ≡ prepared.plan.antennas }
+    requires sources { length sources.old ≡ 64 }
+    requires none_begun { All (λ s. S.begun s ≡ false) sources.old }
+    requires sink { K.begun sink.old ≡ false }
+    ensures length { length sources.new ≡ length sources.old }
+    ensures unused { AreSameFrom prepared.plan.antennas sources.old sources.new }
+    ensures at_sources { AreAtOwn S.begun S.at asked.now.settings.inputs sources.new }
+    ensures at_sink { IsAtOwn (K.begun sink.new) (K.at sink.new) asked.now.settings.output }
+    ensures printable { IsPrintable result }
+    ensures runs { RunsPlan asked.now.telling prepared.plan
+        (record {
+          gives = S.gives;
+          given = S.given;
+          begun = S.begun;
+          faults = S.faults;
+          old = sources.old;
+          now = sources.new;
+          sent_before = K.sent sink.old;
+          sent = K.sent sink.new;
+          sink_faults_before = K.faults sink.old;
+          sink_faults = K.faults sink.new;
+          sink_begun = K.begun sink.new;
+        }) result }
+{
+    let settings = &asked.settings;
+    if let Err(antenna) = begin_all::<O, S>(sources, settings.inputs.as_slice()) {
+        return Answer::NotBegun(antenna);
+    }
+    run_begun::<O, S, K>(prepared, &settings.output, asked.telling, sources, sink)
 }
 
 // Begins the sink at the place, correlates and sends.
 fn run_begun<O: Observation, S: PacketSource<O>, K: PacketSink>(
-    alloc: Global,
-    plan: &Plan,
+    prepared: Prepared<Cross, Sender>,
     place: &Place,
+    telling: Telling,
     sources: &mut [S],
     sink: &mut K,
-) -> Result<Answer, NoMemory>
-    requires fits { Fits plan.now }
-    requires sources { length sources.old ≡ 64 }
-    requires begun { AreBegun S.begun plan.now.antennas sources.old }
+) -> Answer
+    requires fits { Fits prepared.plan }
+    requires enough { prepared.plan.antennas ≤ length sources.old }
+    requires begun { AreBegun S.begun prepared.plan.antennas sources.old }
     ensures length { length sources.new ≡ length sources.old }
-    ensures later { AreSameFrom plan.now.antennas sources.old sources.new }
+    ensures later { AreSameFrom prepared.plan.antennas sources.old sources.new }
     ensures at { KeepsEach S.at sources.old sources.new }
     ensures at_sink { IsAtOwn (K.begun sink.new) (K.at sink.new) place.now }
-    ensures runs { Correlates plan.now
+    ensures printable { IsPrintable result }
+    ensures over { IsOverBegun result }
+    ensures runs { RunsPlan telling prepared.plan
         (record {
           gives = S.gives;
           given = S.given;
@@ -228,27 +277,29 @@ fn run_begun<O: Observation, S: PacketSource<O>, K: PacketSink>(
         }) result }
 {
     match sink.begin(place) {
-        Ok(()) => correlate::<O, S, K>(alloc, plan, sources, sink),
-        Err(_) => Ok(Answer::SinkFault),
+        Ok(()) => correlate::<O, S, K>(prepared, telling, sources, sink),
+        Err(_) => Answer::SinkFault,
     }
 }
 
-// Reads the sources, and sends the output of what they gave.
+// Correlates what the sources give, and sends the output.
 fn correlate<O: Observation, S: PacketSource<O>, K: PacketSink>(
-    alloc: Global,
-    plan: &Plan,
+    prepared: Prepared<Cross, Sender>,
+    telling: Telling,
     sources: &mut [S],
     sink: &mut K,
-) -> Result<Answer, NoMemory>
-    requires fits { Fits plan.now }
-    requires sources { length sources.old ≡ 64 }
-    requires begun { AreBegun S.begun plan.now.antennas sources.old }
+) -> Answer
+    requires fits { Fits prepared.plan }
+    requires enough { prepared.plan.antennas ≤ length sources.old }
+    requires begun { AreBegun S.begun prepared.plan.antennas sources.old }
     requires sink { K.begun sink.old ≡ true }
     ensures length { length sources.new ≡ length sources.old }
-    ensures later { AreSameFrom plan.now.antennas sources.old sources.new }
+    ensures later { AreSameFrom prepared.plan.antennas sources.old sources.new }
     ensures at { KeepsEach S.at sources.old sources.new }
     ensures at_sink { K.at sink.new ≡ K.at sink.old }
-    ensures runs { Correlates plan.now
+    ensures printable { IsPrintable result }
+    ensures over { IsOverBegun result }
+    ensures runs { RunsPlan telling prepared.plan
         (record {
           gives = S.gives;
           given = S.given;
@@ -263,10 +314,29 @@ fn correlate<O: Observation, S: PacketSource<O>, K: PacketSink>(
           sink_begun = K.begun sink.new;
         }) result }
 {
-    let mut payload = room_for_visibilities(alloc, plan)?;
-    let read = gather::<O, S>(alloc, plan, sources)?;
-    match send_output(plan, read.streams.as_slice(), &mut payload, sink) {
-        Ok(packets) => Ok(Answer::Sent(packets, read.fault)),
-        Err(_) => Ok(Answer::SinkFault),
+    let outcome = correlate_serial::<O, S, K>(prepared, sources, sink);
+    answer_of(telling, outcome)
+}
+
+// The answer of a run that ended so.
+fn answer_of(telling: Telling, outcome: Outcome) -> Answer
+    ensures { result ≡ answer_of telling outcome.ran outcome.sent outcome.reports }
+{
+    match outcome.ran {
+        Ran::Done => sent_answer(telling, outcome.sent, outcome.reports, None),
+        Ran::SourceFault(antenna) => {
+            sent_answer(telling, outcome.sent, outcome.reports, Some(antenna))
+        }
+        Ran::SinkFault => Answer::SinkFault,
+    }
+}
+
+// The answer of a run that sent all.
+fn sent_answer(telling: Telling, sent: Sent, reports: Reports, fault: Option<u32>) -> Answer
+    ensures { result ≡ sent_answer telling sent reports fault }
+{
+    match telling {
+        Telling::Packets => Answer::Sent(sent.packets, fault),
+        Telling::Summary => Answer::Summed(sent, reports, fault),
     }
 }

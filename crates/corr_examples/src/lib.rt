@@ -4,6 +4,8 @@
 #[cfg(test)]
 mod assembly_tests;
 #[cfg(test)]
+mod correlate_tests;
+#[cfg(test)]
 mod cut_tests;
 #[cfg(test)]
 mod fault_tests;

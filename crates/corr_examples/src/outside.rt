@@ -1,6 +1,6 @@
 //! What a test hands to a run, and what it looks at afterwards.
 
-ghost use Rattle.std.specs.Prelude.{All};
+ghost use Rattle.std.specs.Prelude.{◌≡◌, false, is_some, All};
 ghost use Rattle.corr_examples.specs.Fresh.{IsFresh};
 
 use crate::packets::Strings;
@@ -144,6 +144,21 @@ pub fn run(
     second: Strings,
     fault: Fault,
 ) -> Result<Ended, Fail> {
+    let settings = ListText::new(Vec::new(alloc), Vec::new(alloc), false);
+    run_over(alloc, words, settings, first, second, fault)
+}
+
+/// Runs the words over a text of settings and the byte strings of two antennas.
+pub fn run_over(
+    alloc: Global,
+    words: &[String],
+    mut settings: ListText,
+    first: Strings,
+    second: Strings,
+    fault: Fault,
+) -> Result<Ended, Fail>
+    requires { is_some settings.at ≡ false }
+{
     let mut sources = all_sources(alloc, first, second, fault)?.list;
     if sources.len() != 64 {
         return Err(Fail::from("not 64 sources"));
@@ -151,7 +166,6 @@ pub fn run(
     let fails = fault.sink_calls(alloc)?;
     let mut sink = ListSink::new(alloc, 8, 4096, fails, fault == Fault::SinkBegin)?;
     let mut print = ListPrint::new(alloc, 1024, fault.print_calls(alloc)?)?;
-    let mut settings = ListText::new(Vec::new(alloc), Vec::new(alloc), false);
     let status = run_returning::<Unheard, _, _, _, _>(
         alloc,
         words,

@@ -1,7 +1,7 @@
 //! The program `spead_corr`: real files and standard output, handed to the correlator.
 #![tactic(auto)]
 
-use corr_cli::{CaptureSink, NoSettings, StdPrint, capture_sources, no_memory, run_returning};
+use corr_cli::{CaptureSink, FileText, StdPrint, capture_sources, no_memory, run_returning};
 use corr_model::Unheard;
 use std::env;
 use std::io::ErrorKind;
@@ -30,7 +30,7 @@ fn main(rt: HostRuntime) -> ExitCode {
     let status = run_returning::<Unheard, _, _, _, _>(
         rt.alloc(),
         words.as_slice(),
-        &mut NoSettings::new(),
+        &mut FileText::new(&rt),
         sources.as_mut_slice(),
         &mut CaptureSink::new(&rt),
         &mut print,

@@ -1,42 +1,25 @@
-use Rattle.std.proofs.Common.{◌<◌, ◌∙◌, length, sym, subst, arith}
-use Rattle.corr_site.specs.Outside.{Appended}
-use Rattle.corr_cli.specs.Sending.{AreStreams, AppendsPackets, columns_of}
-use Rattle.corr_cli.proofs.CountLemmas.{same_count}
-use Rattle.corr_cli.proofs.RunLemmas.{output_of_given, gave_taken}
+use Rattle.std.proofs.Common.{sym, subst}
+use Rattle.corr_cli.specs.Texts.{IsPrintable}
+use Rattle.corr_cli.specs.Runs.{IsOverBegun, RunsPlan}
+use Rattle.corr_cli.proofs.RunLemmas.{comes_by, over_by, printable_by}
 use Rattle.corr_cli.proofs.run.correlate.Goals as goal
-
-pub send_output-requires-clause-streams : goal.send_output-requires-clause-streams
-send_output-requires-clause-streams g c = subst (AreStreams c.args.plan.now) (sym c.as_slice.ensures.value) c.in_ok-read.ensures.streams
-
-pub returns-in-Ok-clause-runs : goal.returns-in-Ok-clause-runs
-returns-in-Ok-clause-runs g c =
-    let S = g.S.PacketSource in
-    let read = c.in_ok-read.ensures.reads in
-    let sent_slice = c.in-Ok.ensures.sent in
-    let sent = rw c.as_slice.ensures.value at sent_slice in
-    let some : 0 < length c.args.sources.now = omega (arith, c.requires.sources) in
-    record {
-      all_begun = record { sources = c.in_ok-read.ensures.begun; sink = c.in-Ok.ensures.begun };
-      output = λ lists is.
-          subst (λ packets. Appended (g.K.PacketSink.sent c.args.sink.now) packets (g.K.PacketSink.sent c.send_output.new.sink))
-          (output_of_given c.args.plan.now S.gives S.given c.args.sources.now c.gather.new.sources c.in_ok-read.read.streams.items read some c.in_ok-read.ensures.streams lists is) sent;
-      taken = gave_taken c.args.plan.now S.gives S.given c.args.sources.now c.gather.new.sources c.in_ok-read.read.streams.items read;
-      count = λ lists. c.in-Ok.ensures.packets ∙ same_count c.args.plan.now (columns_of c.args.plan.now c.as_slice.result.now) lists;
-      least = c.in_ok-read.ensures.cause;
-      sink_kept = c.in-Ok.ensures.cause.kept;
-    }
 
 pub returns-clause-runs : goal.returns-clause-runs
 returns-clause-runs g c =
+    let call = c.correlate_serial-outcome in
+    let says = call.ensures in
+    subst (RunsPlan c.args.telling c.args.prepared.plan _) (sym c.answer_of.ensures)
+    (comes_by c.args.prepared.plan _ call.result.sent c.requires.fits says.begun says.sink_begun c.args.telling call.result.ran call.result.reports says.sends says.counted says.taken says.reports says.whole_reports says.cause)
+
+pub returns-clause-printable : goal.returns-clause-printable
+returns-clause-printable g c =
     let S = g.S.PacketSource in
-    let read = c.in_ok-read.ensures.reads in
-    let sent_slice = c.in-Err.ensures.sent in
-    let sent = rw c.as_slice.ensures.value at sent_slice in
-    let some : 0 < length c.args.sources.now = omega (arith, c.requires.sources) in
-    record {
-      sources = c.in_ok-read.ensures.begun;
-      output = λ lists is.
-          subst (λ packets. AppendsPackets (g.K.PacketSink.sent c.args.sink.now) (g.K.PacketSink.sent c.send_output.new.sink) packets)
-          (output_of_given c.args.plan.now S.gives S.given c.args.sources.now c.gather.new.sources c.in_ok-read.read.streams.items read some c.in_ok-read.ensures.streams lists is) sent;
-      sink_rose = record { later = c.in-Err.ensures.cause.later; rose = c.in-Err.ensures.cause.failed };
-    }
+    let call = c.correlate_serial-outcome in
+    let says = call.ensures in
+    subst IsPrintable (sym c.answer_of.ensures)
+    (printable_by c.args.prepared.plan S.gives S.given S.faults _ _ c.args.telling call.result.ran call.result.sent call.result.reports c.requires.fits says.reports says.whole_reports)
+
+pub returns-clause-over : goal.returns-clause-over
+returns-clause-over g c =
+    let call = c.correlate_serial-outcome in
+    subst IsOverBegun (sym c.answer_of.ensures) (over_by c.args.telling call.result.ran call.result.sent call.result.reports)

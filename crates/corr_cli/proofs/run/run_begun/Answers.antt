@@ -4,12 +4,12 @@ use Rattle.corr_cli.proofs.run.run_begun.Goals as goal
 
 pub returns-in-Err-clause-runs : goal.returns-in-Err-clause-runs
 returns-in-Err-clause-runs g c =
-    sink_not_begun c.args.plan.now _ c.requires.begun c.in-Err.ensures.sent c.in-Err.ensures.begun
+    sink_not_begun c.args.prepared.plan _ c.requires.begun c.in-Err.ensures.sent c.in-Err.ensures.begun
     (record { later = c.in-Err.ensures.cause.later; rose = c.in-Err.ensures.cause.failed })
 
 pub returns-in-Ok-clause-runs : goal.returns-in-Ok-clause-runs
 returns-in-Ok-clause-runs g c =
-    runs_before c.args.plan.now
+    runs_before c.args.prepared.plan
     (record {
       gives = g.S.PacketSource.gives;
       given = g.S.PacketSource.given;
@@ -31,4 +31,4 @@ returns-in-Ok-clause-runs g c =
       sent = c.in-Ok.ensures.sent;
       sink = c.in-Ok.ensures.cause.kept;
     })
-    c.correlate.result c.correlate.ensures.runs
+    c.args.telling c.correlate.result c.correlate.ensures.over c.correlate.ensures.runs

@@ -1,7 +1,0 @@
-use Rattle.corr_model.specs.Outputs.{pairs}
-use Rattle.corr_cli.specs.Sending.{columns_of, product_bytes_by}
-use Rattle.corr_cli.proofs.FillLemmas.{HasFilled}
-use Rattle.corr_cli.proofs.visibilities.put_channel.Given as goal
-
-abbrev pub invariant-loop-b : goal.invariant-loop-b
-invariant-loop-b l = HasFilled (product_bytes_by l.plan (columns_of l.plan l.streams) l.n l.channel) (pairs l.plan.antennas) l.b l.initial.payload l.payload
