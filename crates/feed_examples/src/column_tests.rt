@@ -4,8 +4,37 @@ use crate::fed::{Fed, NOTHING, PLAN};
 use crate::packets::heap;
 use crate::strings::{AT_ONE, AT_ZERO};
 use corr_model::Plan;
-use std::test::Fail;
+use std::alloc::Global;
+use std::process::Abort;
+use std::test::*;
 use stream_feed::{Ending, StreamReport, Verdict};
+
+// A heap's counter and timestamp, and its verdict.
+type Case = (u64, u64, Verdict);
+
+const WHILE_ALL_ARE_OPEN: [Case; 4] = [
+    (1, 96, Verdict::BeforeStart),
+    (2, 102, Verdict::OffGrid),
+    (3, 116, Verdict::Wild),
+    (4, 108, Verdict::Used(1, 0)),
+];
+
+const WHILE_ONE_IS_OPEN: [Case; 2] = [(5, 100, Verdict::Late), (6, 116, Verdict::Beyond)];
+
+const WHILE_NONE_IS_OPEN: [Case; 3] = [
+    (7, 112, Verdict::Late),
+    (8, 124, Verdict::Beyond),
+    (9, 148, Verdict::Wild),
+];
+
+// Takes a heap for each case.
+fn take_cases(fed: &mut Fed, rt: &impl Abort, alloc: Global, cases: &[Case]) -> Result<(), Fail> {
+    for &(counter, timestamp, verdict) in cases {
+        let string = vec![in alloc; heap(alloc, counter, timestamp, AT_ZERO)?]?;
+        fed.take_all(rt, &string, &[verdict]);
+    }
+    Ok(())
+}
 
 #[test]
 fn two_heaps_at_one_place(rt: HostRuntime) -> Result<(), Fail> {
@@ -86,5 +115,36 @@ fn a_floor_that_jumps(rt: HostRuntime) -> Result<(), Fail> {
     fed.give(&rt, 3, [Some(AT_ZERO.as_slice()), Some(AT_ONE.as_slice())]);
     fed.give(&rt, 4, [None, None]);
     fed.gives_nothing(&rt);
+    Ok(())
+}
+
+#[test]
+fn every_verdict_of_time(rt: HostRuntime) -> Result<(), Fail> {
+    let alloc = rt.alloc();
+    let plan = Plan {
+        accumulations: 2,
+        step: 4,
+        start: 100,
+        leap: 2,
+        ..PLAN
+    };
+    let mut fed = Fed::new(&rt, alloc, &plan)?;
+    take_cases(&mut fed, &rt, alloc, &WHILE_ALL_ARE_OPEN)?;
+    fed.give(&rt, 0, [None, None]);
+    take_cases(&mut fed, &rt, alloc, &WHILE_ONE_IS_OPEN)?;
+    fed.give(&rt, 1, [Some(AT_ZERO.as_slice()), None]);
+    take_cases(&mut fed, &rt, alloc, &WHILE_NONE_IS_OPEN)?;
+    fed.gives_nothing(&rt);
+    let wanted = StreamReport {
+        taken: 9,
+        before: 1,
+        offgrid: 1,
+        wild: 2,
+        beyond: 2,
+        late: 2,
+        used: 1,
+        ..NOTHING
+    };
+    assert_eq!(rt; fed.report(&rt), wanted);
     Ok(())
 }

@@ -130,8 +130,8 @@ impl Fed {
     }
 }
 
-/// What is reported of antenna 0 under a plan with one accumulation, where these strings, none of
-/// which ends the stream, have these verdicts.
+/// What is reported of antenna 0 under a plan with one accumulation, where these strings have these
+/// verdicts.
 pub fn reported(
     rt: &impl Abort,
     alloc: Global,

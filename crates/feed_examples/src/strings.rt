@@ -58,22 +58,28 @@ pub fn refused(alloc: Global) -> Result<Vec<Vec<u8>>, AllocError> {
     let mut short = heap(alloc, 1, 0, AT_ZERO)?;
     short.truncate(7);
     strings.push(short)?;
-    for (at, byte) in [(0, 0x54), (1, 3), (2, 4), (7, 8), (8, 0), (24, 0), (32, 0)] {
-        strings.push(changed(alloc, at, byte)?)?;
+    strings.push(changed(alloc, 0, &[0x54])?)?;
+    strings.push(changed(alloc, 1, &[3])?)?;
+    strings.push(changed(alloc, 2, &[4, 4])?)?;
+    strings.push(changed(alloc, 7, &[8])?)?;
+    for pointer in [8, 24, 32] {
+        strings.push(changed(alloc, pointer, &[0; 8])?)?;
     }
     let mut longer = heap(alloc, 1, 0, AT_ZERO)?;
     longer.push(0)?;
     strings.push(longer)?;
-    strings.push(changed(alloc, 23, 3)?)?;
+    strings.push(changed(alloc, 23, &[3])?)?;
     strings.push(heap(alloc, 1, 0, AT_ZERO)?)?;
     Ok(strings)
 }
 
-// The heap with one byte changed.
-fn changed(alloc: Global, at: usize, byte: u8) -> Result<Vec<u8>, AllocError> {
+// The heap with other bytes from a place on.
+fn changed(alloc: Global, at: usize, others: &[u8]) -> Result<Vec<u8>, AllocError> {
     let mut bytes = heap(alloc, 1, 0, AT_ZERO)?;
-    if at < bytes.len() {
-        bytes[at] = byte;
+    for (place, other) in others.iter().enumerate() {
+        if let Some(byte) = bytes.get_mut(at.saturating_add(place)) {
+            *byte = *other;
+        }
     }
     Ok(bytes)
 }

@@ -5,3 +5,6 @@ mod back;
 mod cross;
 
 pub use back::Cross;
+
+#[cfg(test)]
+mod tests;

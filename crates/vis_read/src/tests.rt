@@ -1,5 +1,7 @@
 //! The output of 'two antennas, one heap lost', read back.
 
+ghost use Rattle.std.specs.Prelude.{◌+◌, ◌<◌, ◌≤◌, length};
+
 use crate::{ReadCause, Reader, Seen, VisView};
 use std::process::Abort;
 use std::test::Fail;
@@ -88,5 +90,48 @@ fn three_baselines_are_read(rt: HostRuntime) -> Result<(), Fail> {
     assert_eq!(rt; reader.finish(), Ok(()));
     assert!(rt; matches!(reader.feed(&STOP), Seen::Refused(ReadCause::AfterStop)));
     assert_eq!(rt; reader.finish(), Err(ReadCause::AfterStop));
+    Ok(())
+}
+
+// The packet, in `packet`, of the piece of a datagram's payload from `offset` on: 64 bytes, or the
+// rest.
+fn piece<'a>(datagram: &[u8], offset: usize, packet: &'a mut [u8; 128]) -> &'a [u8]
+    requires within { 64 + offset ≤ length datagram.now }
+    requires small { offset < 65536 }
+{
+    let (front, payload) = datagram.split_at(64);
+    let (_, rest) = payload.split_at(offset);
+    let len = rest.len().min(64);
+    packet[..64].copy_from_slice(front);
+    packet[30..32].copy_from_slice(&(offset as u16).to_be_bytes());
+    packet[38..40].copy_from_slice(&(len as u16).to_be_bytes());
+    packet[64..64 + len].copy_from_slice(&rest[..len]);
+    &packet[..64 + len]
+}
+
+// Whether the reader answers Nothing to the pieces of a datagram at these offsets.
+fn feed_parts(rt: &impl Abort, reader: &mut Reader, datagram: &[u8], offsets: &[usize]) {
+    for offset in offsets {
+        assert!(rt; *offset < 65536 && 64 + *offset <= datagram.len());
+        let mut packet = [0; 128];
+        let bytes = piece(datagram, *offset, &mut packet);
+        assert!(rt; matches!(reader.feed(bytes), Seen::Nothing));
+    }
+}
+
+#[test]
+fn pieces_of_64_bytes_are_read(rt: HostRuntime) -> Result<(), Fail> {
+    let mut reader = Reader::new(rt.alloc(), 1024)?;
+    let mut packet = [0; 128];
+    feed_parts(&rt, &mut reader, &HEAD, &[0, 64, 128, 192]);
+    let last = piece(&HEAD, 256, &mut packet);
+    assert!(rt; matches!(reader.feed(last), Seen::Head(1, 3)));
+    feed_parts(&rt, &mut reader, &HEAP, &[0, 64, 128]);
+    match reader.feed(piece(&HEAP, 192, &mut packet)) {
+        Seen::Heap(view) => look_at(&rt, &view),
+        _ => return Err("no visibility heap")?,
+    }
+    assert!(rt; matches!(reader.feed(&STOP), Seen::Stop));
+    assert_eq!(rt; reader.finish(), Ok(()));
     Ok(())
 }
