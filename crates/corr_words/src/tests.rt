@@ -1,6 +1,6 @@
 //! A command line of each command, and some that have no form.
 
-use super::{Command, WordRefusal, needs_threads, read};
+use super::{Command, WordRefusal, needs_threads, plain_numbers, read};
 use std::alloc::{AllocError, Global};
 use std::test::Fail;
 
@@ -57,5 +57,41 @@ fn lines_and_what_they_are(rt: HostRuntime) -> Result<(), Fail> {
         assert_eq!(rt; told(rt.alloc(), &words), wanted, "{line}");
         assert_eq!(rt; needs_threads(&words), threads, "{line}");
     }
+    Ok(())
+}
+
+#[test]
+fn each_operand_has_its_own_place(rt: HostRuntime) -> Result<(), Fail> {
+    let words = words_of(rt.alloc(), "p simulate c 007 3 o")?;
+    let Ok(Command::Simulate(config, seed, antenna, output)) = read(rt.alloc(), &words) else {
+        panic!(rt; "no simulate");
+    };
+    assert_eq!(rt; config.as_str(), "c");
+    assert_eq!(rt; seed, 7);
+    assert_eq!(rt; antenna, 3);
+    assert_eq!(rt; output.text.as_str(), "o");
+    let words = words_of(rt.alloc(), "p relay a udp:b:1 9")?;
+    let Ok(Command::Relay(from, to, limit)) = read(rt.alloc(), &words) else {
+        panic!(rt; "no relay");
+    };
+    assert!(rt; !from.udp);
+    assert_eq!(rt; from.text.as_str(), "a");
+    assert!(rt; to.udp);
+    assert_eq!(rt; to.text.as_str(), "b:1");
+    assert_eq!(rt; limit, 9);
+    Ok(())
+}
+
+#[test]
+fn the_numbers_of_plain(rt: HostRuntime) -> Result<(), Fail> {
+    let words = words_of(rt.alloc(), "p plain 1 2 3 4 5 a o")?;
+    let Some(numbers) = plain_numbers(&words) else {
+        panic!(rt; "no numbers");
+    };
+    assert_eq!(rt; numbers.antennas, 1);
+    assert_eq!(rt; numbers.channels, 2);
+    assert_eq!(rt; numbers.spectra, 3);
+    assert_eq!(rt; numbers.heaps, 4);
+    assert_eq!(rt; numbers.accumulations, 5);
     Ok(())
 }

@@ -10,8 +10,8 @@ use std::sync::{Condvar, Mutex, Wait};
 use vis_back::Backend;
 
 /// The ring of a plan, shared between threads. Each of its four changes is one call of `Ring`, in
-/// one hold of the ring's lock, and is told to whoever waits for one. No call takes memory, and none
-/// holds both locks at once.
+/// one hold of the ring's lock, and is told to whoever waits for one. No call takes memory, and
+/// none holds both locks at once.
 #[derive(Drop)]
 pub struct Share<O: Observation, B: Backend> {
     ring: Mutex<Ring<O, B>>,
@@ -78,8 +78,8 @@ impl<O: Observation, B: Backend> Share<O, B> {
         gave
     }
 
-    // Counts a change, and wakes whoever waits for one. It comes after the hold of the ring's lock, so
-    // that a thread that reads the count before it looks at the ring misses no change.
+    // Counts a change, and wakes whoever waits for one. It comes after the hold of the ring's lock,
+    // so that a thread that reads the count before it looks at the ring misses no change.
     fn tell<R: Wait>(&self, rt: &R) {
         let mut changes = self.changes.lock(rt);
         *changes = changes.wrapping_add(1);

@@ -136,22 +136,23 @@ fn closed(
     Ok(hand)
 }
 
-// Takes a slot's columns, computes their value, and stores it.
+// Takes a slot's columns, computes their value, and stores it into another ring or the same.
 fn work_on<R: Wait>(
     rt: &R,
-    share: &Share<Unheard, Counting>,
+    from: &Share<Unheard, Counting>,
+    to: &Share<Unheard, Counting>,
     slot: u32,
     work: &mut Work<Unheard, Counting>,
 ) -> Result<Stored, Took>
     requires free { work.old.stage ≡ Stage.Free }
     requires in_range { slot < work.old.plan.slots }
 {
-    let took = share.take(rt, slot, work);
+    let took = from.take(rt, slot, work);
     if !matches!(took, Took::Taken) {
         return Err(took);
     }
     work.compute(&Counting);
-    Ok(share.store(rt, work))
+    Ok(to.store(rt, work))
 }
 
 // The value may be used by several threads at once.
@@ -180,7 +181,10 @@ fn an_accumulation_goes_round(rt: HostRuntime) -> Result<(), Fail> {
         share.put(&rt, &mut closed(alloc, &PLAN, 1, 0)?),
         Put::Placed
     );
-    assert_eq!(rt; work_on(&rt, &share, 0, &mut work), Ok(Stored::Stored));
+    assert_eq!(rt;
+        work_on(&rt, &share, &share, 0, &mut work),
+        Ok(Stored::Stored)
+    );
     assert!(rt; work.is_free());
     assert_eq!(rt;
         share.send(&rt, 1, &mut outgoing),
@@ -190,5 +194,29 @@ fn an_accumulation_goes_round(rt: HostRuntime) -> Result<(), Fail> {
     assert_eq!(rt; outgoing.number(), 0);
     assert_eq!(rt; outgoing.out().added, 3);
     assert_eq!(rt; share.pause(&rt, 4), 5);
+    Ok(())
+}
+
+#[test]
+fn a_value_that_no_slot_awaits_is_let_go(rt: HostRuntime) -> Result<(), Fail> {
+    assert!(rt; PLAN.fits());
+    let alloc = rt.alloc();
+    let share = Share::new(Ring::new(alloc, &PLAN, &Counting)?);
+    let other = Share::new(Ring::new(alloc, &PLAN, &Counting)?);
+    let mut work = Work::new(alloc, &PLAN, &Counting)?;
+    assert_eq!(rt;
+        share.put(&rt, &mut closed(alloc, &PLAN, 0, 0)?),
+        Put::Placed
+    );
+    assert_eq!(rt;
+        share.put(&rt, &mut closed(alloc, &PLAN, 1, 0)?),
+        Put::Placed
+    );
+    assert_eq!(rt;
+        work_on(&rt, &share, &other, 0, &mut work),
+        Ok(Stored::Old(held(0, Kind::Filling, 0)))
+    );
+    assert!(rt; work.is_free());
+    assert_eq!(rt; other.pause(&rt, 1), 0);
     Ok(())
 }
