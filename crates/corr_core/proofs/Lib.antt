@@ -1,0 +1,10 @@
+pub mod StandingLemmas
+pub mod AgreeLemmas
+pub mod FeedLemmas
+pub mod PutLemmas
+pub mod WorkLemmas
+pub mod SendLemmas
+pub mod EmitLemmas
+pub mod SoundLemmas
+pub mod ChangeLemmas
+pub mod NewLemmas

@@ -1,0 +1,13 @@
+pub mod Places
+pub mod Floors
+pub mod Proper
+pub mod Progress
+pub mod Sending
+pub mod Counts
+pub mod Reaching
+pub mod Moving
+pub mod RunLaws
+pub mod WorkLaws
+pub mod ColumnLaws
+pub mod SameHeaps
+pub mod SentLaws
