@@ -1,0 +1,233 @@
+//! A capture file or a UDP socket as a source of byte strings.
+
+ghost use Rattle.std.specs.Prelude.{◌≡◌, ◌≤◌, true, false, None, IfOk, All, is_some};
+ghost use Rattle.std.specs.Vec.{vec_len};
+ghost use Rattle.corr_site.specs.Outside.{NextFits, Rises, NextHasCause};
+ghost use Rattle.corr_net.specs.Adapters.{FailsAgain};
+
+use crate::held::{Held, HeldFiles, SOURCES};
+use crate::label::{Label, Role};
+use crate::raw::{Opened, one_more};
+use capture_file::{CaptureReader, CaptureRefusal, Captured};
+use corr_model::Observation;
+use corr_site::{Failed, Next, NoMemory, PacketSource, Place};
+use std::alloc::Global;
+use std::fs::OpenFile;
+use std::io::ErrorKind;
+use std::net::{Net, UdpSocket};
+use std::rt::Files;
+use std::{fmt, fs};
+
+/// The greatest length of a byte string.
+const STRING_LIMIT: usize = 65535;
+
+/// How often a receive is tried that a signal interrupts.
+const TRIES: u32 = 1_000_000;
+
+/// What a source reads from.
+#[derive(Drop)]
+enum Input<'a, R: Files + Eprint> {
+    /// The records of a capture file.
+    Capture(Records<'a, R>),
+    /// The datagrams that come to an address.
+    Socket(UdpSocket),
+}
+
+/// The records of a capture file that is open.
+#[derive(Drop)]
+struct Records<'a, R: Files + Eprint> {
+    reader: CaptureReader<Opened<'a, R, R::File>>,
+    ghost begun: { reader.begun ≡ true },
+}
+
+/// A capture file that gives its records, or a UDP address that gives the datagrams that come to it
+/// and never ends. It tells nothing of them. After a failure it fails at every call of `next`, until
+/// it is begun again.
+#[derive(Drop)]
+pub struct ProgramSource<'a, R: Files + Eprint> {
+    system: &'a R,
+    held: &'a Held,
+    input: Option<Input<'a, R>>,
+    label: Label,
+    given: u64,
+    is_broken: bool,
+    faults: u64,
+}
+
+/// As many sources as a run has room for, none of them begun. Each notes the file that it opens in
+/// `held`. `NoMemory` comes only for want of memory.
+pub fn program_sources<'a, R: Files + Net + Eprint>(
+    alloc: Global,
+    system: &'a R,
+    held: &'a HeldFiles,
+) -> Result<Vec<ProgramSource<'a, R>>, NoMemory>
+    ensures count { IfOk result (λ v. vec_len v ≡ 64) }
+    ensures unbegun { IfOk result (λ v. All (λ s. is_some s.input ≡ false) v.items) }
+{
+    let mut sources = Vec::new(alloc);
+    for number in 0..SOURCES {
+        sources.push(ProgramSource::new(system, held.input(number)))?;
+    }
+    Ok(sources)
+}
+
+/// Why a capture file is refused, behind so many records.
+#[derive(Drop)]
+struct RefusedAt {
+    cause: CaptureRefusal,
+    records: u64,
+}
+
+impl fmt::Display for RefusedAt {
+    fn fmt<W: fmt::Write>(&self, f: &mut fmt::Formatter<W>) -> fmt::Result {
+        let records = self.records;
+        match self.cause {
+            CaptureRefusal::Magic => write!(f, "no capture: it does not begin with SPCAPT01"),
+            CaptureRefusal::Cut => write!(f, "record {records}: the file ends in the middle of it"),
+            CaptureRefusal::TooLong(len) => {
+                write!(
+                    f,
+                    "record {records}: its length is {len}, which is over 65535"
+                )
+            }
+        }
+    }
+}
+
+// Receives once, and again where a signal came between.
+fn receive(socket: &UdpSocket, buf: &mut [u8; 65536]) -> std::io::Result<usize>
+    ensures within { IfOk result (λ n. n ≤ 65535) }
+{
+    for _ in 0..TRIES {
+        match socket.recv(&mut buf[..STRING_LIMIT]) {
+            Err(error) if error.kind() == ErrorKind::Interrupted => {}
+            received => return received,
+        }
+    }
+    Err(std::io::Error::from(ErrorKind::Interrupted))
+}
+
+impl<'a, R: Files + Net + Eprint> ProgramSource<'a, R> {
+    /// A source that is not begun. It notes the file that it opens in `held`.
+    pub fn new(system: &'a R, held: &'a Held) -> Self
+        ensures { is_some result.input ≡ false }
+    {
+        ProgramSource {
+            system,
+            held,
+            input: None,
+            label: Label::new(Role::Input(0), ""),
+            given: 0,
+            is_broken: false,
+            faults: 0,
+        }
+    }
+
+    // Opens a capture file and notes it, or binds to an address.
+    fn open(&self, antenna: u32, place: &Place) -> std::io::Result<Input<'a, R>> {
+        let path = place.text.as_str();
+        if place.udp {
+            return Ok(Input::Socket(UdpSocket::bind(self.system, path)?));
+        }
+        let file = fs::open(self.system, path)?;
+        if let Ok(node) = file.metadata() {
+            self.held.set(&node);
+        }
+        let label = Label::new(Role::Input(antenna), path);
+        let reader = CaptureReader::new(Opened::new(self.system, label, file));
+        Ok(Input::Capture(Records { reader }))
+    }
+
+    // The next byte string, where no call failed before.
+    fn take(&mut self, buf: &mut [u8; 65536]) -> Next
+        ensures fits { NextFits result }
+        ensures input { is_some self.new.input ≡ is_some self.old.input }
+        ensures faults { self.new.faults ≡ self.old.faults }
+    {
+        match &mut self.input {
+            Some(Input::Capture(records)) if !records.reader.broken() => match records
+                .reader
+                .next(buf)
+            {
+                Captured::Packet(len) => Next::Packet(len),
+                Captured::End => Next::End,
+                Captured::Refused(cause) => {
+                    let records = self.given;
+                    self.label.say(self.system, RefusedAt { cause, records });
+                    Next::Failed
+                }
+                Captured::Failed => Next::Failed,
+            },
+            Some(Input::Socket(socket)) => match receive(socket, buf) {
+                Ok(len) => Next::Packet(len),
+                Err(error) => {
+                    self.label.say(self.system, error);
+                    Next::Failed
+                }
+            },
+            _ => Next::Failed,
+        }
+    }
+
+    // The next byte string, and never again one after a failure.
+    fn go_on(&mut self, buf: &mut [u8; 65536]) -> Next
+        ensures fits { NextFits result }
+        ensures input { is_some self.new.input ≡ is_some self.old.input }
+        ensures cause { NextHasCause self.old.faults self.new.faults result }
+        ensures again { FailsAgain self.old.is_broken result }
+        ensures broken { result ≡ Next.Failed → self.new.is_broken ≡ true }
+    {
+        let next = if self.is_broken {
+            Next::Failed
+        } else {
+            self.take(buf)
+        };
+        match next {
+            Next::Failed => {
+                self.is_broken = true;
+                self.faults = one_more(self.faults);
+            }
+            Next::Packet(_) => self.given = self.given.saturating_add(1),
+            Next::End => {}
+        }
+        next
+    }
+}
+
+impl<O: Observation, R: Files + Net + Eprint> PacketSource<O> for ProgramSource<'_, R> {
+    ghost gives = { λ _. None };
+
+    ghost given = { λ _. 0 };
+
+    ghost begun = { λ s. is_some s.input };
+
+    ghost at = { λ _. None };
+
+    ghost belongs = { λ _ _. ⊥ };
+
+    ghost faults = { λ s. s.faults };
+
+    fn begin(&mut self, antenna: u32, place: &Place) -> Result<(), Failed> {
+        self.is_broken = false;
+        self.given = 0;
+        self.label = Label::new(Role::Input(antenna), place.text.as_str());
+        match self.open(antenna, place) {
+            Ok(input) => {
+                self.input = Some(input);
+                Ok(())
+            }
+            Err(error) => {
+                self.label.say(self.system, error);
+                self.input = None;
+                self.faults = one_more(self.faults);
+                Err(Failed)
+            }
+        }
+    }
+
+    fn next(&mut self, buf: &mut [u8; 65536]) -> Next {
+        self.go_on(buf)
+    }
+
+    ghost belongs_tells = { λ s a h. absurd h };
+}
