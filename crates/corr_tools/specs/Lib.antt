@@ -1,0 +1,5 @@
+pub mod Taking
+pub mod Relaying
+pub mod Inspecting
+pub mod Decoding
+pub mod Printing
