@@ -97,7 +97,7 @@ has_form : (words : List (List ℕ)) (command : Command) {P : Type 0} → form_o
 has_form words command e none = let both : Some command ≡ None = sym e ∙ none in absurd cc
 
 -- words without a form read no text
-no_text : (words : List (List ℕ)) → form_of words ≡ None → needs_text words ≡ false
+pub no_text : (words : List (List ℕ)) → form_of words ≡ None → needs_text words ≡ false
 no_text words none = rw none refl
 
 -- a run was said where the settings are refused
@@ -328,6 +328,28 @@ never_zero (Sent packets fault) e = never_zero_after fault e
 never_zero (Summed sent reports fault) e = never_zero_after fault e
 never_zero SinkFault e = clash_at 4 0 4 refl e refl refl
 never_zero NoMemory e = clash_at 5 0 5 refl e refl refl
+
+done_after : (fault : Option ℕ) → unprinted (code_after fault) ≡ 6 → code_after fault ≡ 0
+done_after None e = refl
+done_after (Some a) e = clash_at 3 6 3 refl e refl refl
+
+-- an answer that was not printed whole has 6 only in place of 0
+done_cut : (answer : Answer) → unprinted_code answer ≡ 6 → code_of answer ≡ 0
+done_cut Usage e = clash_at 1 6 1 refl e refl refl
+done_cut SettingsFault e = clash_at 8 6 8 refl e refl refl
+done_cut (Settings refusal) e = clash_at 2 6 2 refl e refl refl
+done_cut (NotBegun antenna) e = clash_at 3 6 3 refl e refl refl
+done_cut (Sent packets fault) e = done_after fault e
+done_cut (Summed sent reports fault) e = done_after fault e
+done_cut SinkFault e = clash_at 4 6 4 refl e refl refl
+done_cut NoMemory e = clash_at 5 6 5 refl e refl refl
+
+-- with 0 or 6 the own code of the answer is 0
+pub done_code : (answer : Answer) (code : ℕ) → (code ≡ code_of answer) ⊎ (code ≡ unprinted_code answer) → (code ≡ 0) ⊎ (code ≡ 6) → code_of answer ≡ 0
+done_code answer code (inl own) (inl none) = sym own ∙ none
+done_code answer code (inl own) (inr six) = absurd (never_six answer (sym own ∙ six))
+done_code answer code (inr cut) (inl none) = absurd (never_zero answer (sym cut ∙ none))
+done_code answer code (inr cut) (inr six) = done_cut answer (sym cut ∙ six)
 
 -- at status 6 the count of the print sink rose
 pub print_failed : (before now : Option (List ℕ)) (faults_before faults : ℕ) (answer : Answer) (code : ℕ) → Tells before now faults_before faults answer code → code ≡ 6 → Rises faults_before faults

@@ -8,3 +8,5 @@ pub mod RunLemmas
 pub mod PrintLemmas
 pub mod SaysLemmas
 pub mod ComesLemmas
+pub mod ToolLemmas
+pub mod ToolRunLemmas

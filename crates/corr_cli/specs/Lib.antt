@@ -1,7 +1,7 @@
 pub mod Beginning
 pub mod Placing
-pub mod Records
 pub mod Runs
 pub mod Said
 pub mod Says
 pub mod Texts
+pub mod Tools

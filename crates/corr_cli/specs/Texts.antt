@@ -25,6 +25,10 @@ code_of SinkFault = 4
 code_of NoMemory = 5
 code_of SettingsFault = 8
 
+-- the answer is none of a run that sent all without a fault
+abbrev pub IsNotDone : Answer → Type 0
+IsNotDone answer = code_of answer ≡ 0 → ⊥
+
 -- the line on a source that failed after the run began, if one did
 abbrev pub later_text : Option ℕ → List ℕ
 later_text None = []

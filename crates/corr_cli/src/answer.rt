@@ -11,7 +11,7 @@ use vis_send::Sent;
 #[derive(Clone, Copy, Debug, PartialEq, Eq)]
 pub struct Status {
     /// 0 done, 1 usage, 2 settings, 3 source fault, 4 sink fault, 5 no memory, 6 print fault,
-    /// 8 settings source fault.
+    /// 8 settings source fault, 9 refused content.
     pub code: u8,
 }
 

@@ -3,13 +3,11 @@
 
 mod answer;
 mod begin;
-mod capture;
-mod print;
+mod printing;
 mod report;
 mod run;
 mod said;
+mod tools;
 
 pub use answer::Status;
-pub use capture::{CaptureSink, CaptureSource, capture_sources};
-pub use print::{FileText, StdPrint};
 pub use run::{no_memory, run_returning};

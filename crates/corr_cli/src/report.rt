@@ -60,7 +60,7 @@ fn print_usage<P: TextSink>(print: &mut P) -> Result<(), Failed>
 }
 
 // Prints the line of a status.
-fn print_status<P: TextSink>(status: &StatusLine, print: &mut P) -> Result<(), Failed>
+pub(crate) fn print_status<P: TextSink>(status: &StatusLine, print: &mut P) -> Result<(), Failed>
     ensures written { Writes (P.written print.old) (P.written print.new) result (status_text status.now) }
     ensures cause { HasCause (P.faults print.old) (P.faults print.new) result }
 {

@@ -1,6 +1,6 @@
 //! One run of the program, over any sources and any sink.
 
-ghost use Rattle.std.specs.Prelude.{◌≡◌, ◌↔◌, ◌⊎◌, ℕ, ◌<◌, ◌≤◌, Bool, true, false, List, Option, Some, IsNone, All, length, map, string_bytes};
+ghost use Rattle.std.specs.Prelude.{◌≡◌, ◌↔◌, ◌⊎◌, ℕ, ◌<◌, ◌≤◌, Bool, true, false, List, Option, Some, IsNone, All, length, map, slice_index_or, string_bytes};
 ghost use Rattle.corr_model.specs.Plans.{Fits};
 ghost use Rattle.corr_model.specs.Outputs.{output};
 ghost use Rattle.corr_site.specs.Outside.{Appended, Rises, Rose};
@@ -10,13 +10,16 @@ ghost use Rattle.corr_serial.specs.Sources.{AreBegun, AreSameFrom, KeepsEach};
 ghost use Rattle.corr_serial.specs.Runs.{AreGiven, GaveTaken, NoneRose, list_of};
 ghost use Rattle.corr_cli.specs.Said.{AreRefused, HasRun, form_of, needs_text};
 ghost use Rattle.corr_cli.specs.Placing.{IsAtOwn, AreAtOwn};
-ghost use Rattle.corr_cli.specs.Texts.{IsPrintable, Tells};
+ghost use Rattle.corr_cli.specs.Texts.{IsPrintable, Tells, code_of};
+ghost use Rattle.corr_words.specs.Forms.{form};
+ghost use Rattle.corr_cli.specs.Tools.{ToolRan, command_of, names_tool};
 ghost use Rattle.corr_cli.specs.Runs.{AppendsPackets, Comes, FaultOfSource, IsOverBegun, IsRefusedAs, IsUntouched, IsWhole, RanAs, RefusedCode, RunsPlan, answer_of, sent_answer};
 
 use crate::answer::{Answer, Status};
 use crate::begin::begin_all;
 use crate::report::tell;
 use crate::said::{Asked, Telling, said};
+use crate::tools::{names_tool, run_tool};
 use corr_model::Observation;
 use corr_serial::{Outcome, Prepared, Ran, Reports, correlate_serial, prepare};
 use corr_site::{PacketSink, PacketSource, Place, TextSink, TextSource};
@@ -70,9 +73,11 @@ pub fn run_returning<O: Observation, S: PacketSource<O>, K: PacketSink, P: TextS
         → IsAtOwn (K.begun sink.new) (K.at sink.new) run.output }
     ensures at_settings { (config : List ℕ) (serial : Bool) → form_of (map string_bytes words.now) ≡ Some (Correlate config serial)
         → IsAtOwn (D.begun settings.new) (D.at settings.new) config }
+    ensures begun_settings { (result.code ≡ 0) ⊎ (result.code ≡ 6) → needs_text (map string_bytes words.now) ≡ true
+        → D.begun settings.new ≡ true }
 
     // The causes of the statuses.
-    ensures usage { (result.code ≡ 1) ↔ IsNone (form_of (map string_bytes words.now)) }
+    ensures usage { (result.code ≡ 1) ↔ IsNone (command_of (map string_bytes words.now)) }
     ensures settings { result.code ≡ 2 → IsRefusedAs (map string_bytes words.now) (D.left settings.old) }
     ensures refused { AreRefused (map string_bytes words.now) (D.left settings.old) → RefusedCode (map string_bytes words.now) result.code }
     ensures settings_fault { result.code ≡ 8 → Rises (D.faults settings.old) (D.faults settings.new) }
@@ -91,7 +96,7 @@ pub fn run_returning<O: Observation, S: PacketSource<O>, K: PacketSink, P: TextS
         → (result.code ≡ 0) ⊎ (result.code ≡ 5) }
 
     // The answer that the run came to, with all that is known of it, and its text.
-    ensures ran { RanAs (map string_bytes words.now)
+    ensures ran { names_tool (map string_bytes words.now) ≡ false → RanAs (map string_bytes words.now)
         (record {
           gives = S.gives;
           given = S.given;
@@ -107,7 +112,41 @@ pub fn run_returning<O: Observation, S: PacketSource<O>, K: PacketSink, P: TextS
         })
         (record { text = D.left settings.old; faults_before = D.faults settings.old; faults = D.faults settings.new })
         (P.written print.old) (P.written print.new) (P.faults print.old) (P.faults print.new) result.code }
+
+    // The tools: what `relay`, `inspect` and `decode` come to over the first source, with their text.
+    ensures tool { names_tool (map string_bytes words.now) ≡ true
+        → (first : S) → first ≡ slice_index_or sources.old 0 first
+        → (now : S) → now ≡ slice_index_or sources.new 0 now
+        → ToolRan (form (map string_bytes words.now)) first now
+        (record {
+          gives = S.gives first;
+          given_before = S.given first;
+          given = S.given now;
+          begun = S.begun now;
+          at = S.at now;
+          faults_before = S.faults first;
+          faults = S.faults now;
+        })
+        (record {
+          sent_before = K.sent sink.old;
+          sent = K.sent sink.new;
+          begun = K.begun sink.new;
+          at = K.at sink.new;
+          faults_before = K.faults sink.old;
+          faults = K.faults sink.new;
+        })
+        (record {
+          before = P.written print.old;
+          now = P.written print.new;
+          faults_before = P.faults print.old;
+          faults = P.faults print.new;
+        }) result.code }
+    ensures tool_sources { names_tool (map string_bytes words.now) ≡ true
+        → AreSameFrom 1 sources.old sources.new }
 {
+    if names_tool(words) {
+        return run_tool::<O, S, K, P>(alloc, words, &mut sources[0], sink, print);
+    }
     tell(
         &answer::<O, S, K, D>(alloc, words, settings, sources, sink),
         print,
@@ -143,6 +182,8 @@ fn answer<O: Observation, S: PacketSource<O>, K: PacketSink, D: TextSource>(
         → IsAtOwn (K.begun sink.new) (K.at sink.new) run.output }
     ensures at_settings { (config : List ℕ) (serial : Bool) → form_of (map string_bytes words.now) ≡ Some (Correlate config serial)
         → IsAtOwn (D.begun settings.new) (D.at settings.new) config }
+    ensures begun_settings { code_of result ≡ 0 → needs_text (map string_bytes words.now) ≡ true
+        → D.begun settings.new ≡ true }
     ensures printable { IsPrintable result }
     ensures comes { Comes (map string_bytes words.now)
         (record {

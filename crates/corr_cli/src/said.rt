@@ -10,7 +10,7 @@ ghost use Rattle.corr_settings.specs.Read.{settings};
 ghost use Rattle.corr_cli.specs.Placing.{IsAtOwn};
 ghost use Rattle.corr_cli.specs.Said.{form_of, names_built, needs_text, numbers, of_plain};
 ghost use Rattle.corr_cli.specs.Says.{IsSaidBy, Says, SaysCause, SaysText, RefusesNumbers, IsOfText, IsOfBytes, IsOfNumbers};
-ghost use Rattle.corr_cli.specs.Texts.{IsPrintable};
+ghost use Rattle.corr_cli.specs.Texts.{IsNotDone, IsPrintable};
 
 use crate::answer::Answer;
 use corr_settings::{PlainNumbers, SetRefusal, Settings, plain_settings, read};
@@ -48,6 +48,8 @@ pub fn said<D: TextSource>(alloc: Global, words: &[String], text: &mut D) -> Res
     ensures text { needs_text (map string_bytes words.now) ≡ false → text.new ≡ text.old }
     ensures at { (config : List ℕ) (serial : Bool) → form_of (map string_bytes words.now) ≡ Some (Correlate config serial)
         → IsAtOwn (D.begun text.new) (D.at text.new) config }
+    ensures begun { IfOk result (λ a. needs_text (map string_bytes words.now) ≡ true → D.begun text.new ≡ true) }
+    ensures stops { IfErr result IsNotDone }
     ensures cause { SaysCause (D.faults text.old) (D.faults text.new) result }
 {
     if is_built(words) {
@@ -68,6 +70,8 @@ fn said_by<D: TextSource>(alloc: Global, words: &[String], text: &mut D) -> Resu
     ensures text { needs_text (map string_bytes words.now) ≡ false → text.new ≡ text.old }
     ensures at { (config : List ℕ) (serial : Bool) → form_of (map string_bytes words.now) ≡ Some (Correlate config serial)
         → IsAtOwn (D.begun text.new) (D.at text.new) config }
+    ensures begun { IfOk result (λ a. needs_text (map string_bytes words.now) ≡ true → D.begun text.new ≡ true) }
+    ensures stops { IfErr result IsNotDone }
     ensures cause { SaysCause (D.faults text.old) (D.faults text.new) result }
 {
     if let Some(refusal) = refused_numbers(words) {
@@ -124,6 +128,7 @@ fn said_plain(plain: PlainWords) -> Result<Asked, Answer>
     requires { length plain.inputs ≡ plain.antennas }
     ensures says { SaysText (of_plain plain) Telling.Packets result }
     ensures answers { IfErr result IsOfNumbers }
+    ensures stops { IfErr result IsNotDone }
     ensures printable { IfErr result IsPrintable }
     ensures fits { IfOk result (λ a. Fits a.settings.plan) }
     ensures inputs { IfOk result (λ a. length a.settings.inputs ≡ a.settings.plan.antennas) }
@@ -154,6 +159,8 @@ fn said_text<D: TextSource>(alloc: Global, config: &Text, text: &mut D) -> Resul
     ensures says { (bytes : List ℕ) → D.left text.old ≡ Some bytes → SaysText (settings bytes) Telling.Summary result }
     ensures telling { IfOk result (λ a. a.telling ≡ Telling.Summary) }
     ensures answers { IfErr result IsOfText }
+    ensures begun { IfOk result (λ a. D.begun text.new ≡ true) }
+    ensures stops { IfErr result IsNotDone }
     ensures printable { IfErr result IsPrintable }
     ensures fits { IfOk result (λ a. Fits a.settings.plan) }
     ensures inputs { IfOk result (λ a. length a.settings.inputs ≡ a.settings.plan.antennas) }
@@ -175,6 +182,7 @@ fn settings_of(alloc: Global, bytes: &[u8]) -> Result<Asked, Answer>
     ensures says { SaysText (settings bytes.now) Telling.Summary result }
     ensures telling { IfOk result (λ a. a.telling ≡ Telling.Summary) }
     ensures answers { IfErr result IsOfBytes }
+    ensures stops { IfErr result IsNotDone }
     ensures printable { IfErr result IsPrintable }
     ensures fits { IfOk result (λ a. Fits a.settings.plan) }
     ensures inputs { IfOk result (λ a. length a.settings.inputs ≡ a.settings.plan.antennas) }

@@ -45,6 +45,32 @@ fn a_source_that_cannot_be_begun(rt: HostRuntime) -> Result<(), Fail> {
 }
 
 #[test]
+fn a_first_source_that_cannot_be_begun(rt: HostRuntime) -> Result<(), Fail> {
+    let end = run_with(rt.alloc(), Fault::FirstBegin)?;
+    assert_eq!(rt; end.code, 3);
+    assert_eq!(rt; end.print.text(), b"source fault 0\n".as_slice());
+    assert_eq!(rt; end.sink.len(), 0);
+    assert_eq!(rt; end.begun_sources(), 0);
+    assert_eq!(rt; end.sources.get(1).ok_or("antenna 1")?.faults(), 0);
+    Ok(())
+}
+
+#[test]
+fn the_second_of_three_sources_cannot_be_begun(rt: HostRuntime) -> Result<(), Fail> {
+    let alloc = rt.alloc();
+    let words = "spead_corr plain 3 1 1 2 1 a.cap b.cap c.cap out.cap";
+    let fault = Fault::SourceBegin;
+    let end = run_text(alloc, words, two_heaps(alloc)?, one_heap(alloc)?, fault)?;
+    assert_eq!(rt; end.code, 3);
+    assert_eq!(rt; end.print.text(), b"source fault 1\n".as_slice());
+    assert_eq!(rt; end.sink.len(), 0);
+    assert!(rt; end.sources.get(0).ok_or("antenna 0")?.is_begun());
+    assert!(rt; !end.sources.get(2).ok_or("antenna 2")?.is_begun());
+    assert_eq!(rt; end.sources.get(2).ok_or("antenna 2")?.faults(), 0);
+    Ok(())
+}
+
+#[test]
 fn a_sink_that_cannot_be_begun(rt: HostRuntime) -> Result<(), Fail> {
     let end = run_with(rt.alloc(), Fault::SinkBegin)?;
     assert_eq!(rt; end.code, 4);

@@ -18,4 +18,6 @@ mod packets;
 #[cfg(test)]
 mod plain_tests;
 #[cfg(test)]
+mod tool_tests;
+#[cfg(test)]
 mod words_tests;

@@ -18,6 +18,8 @@ pub const PLAIN: &str = "spead_corr plain 2 1 1 2 1 a.cap b.cap out.cap";
 pub enum Fault {
     /// None.
     No,
+    /// `begin` of antenna 0's source.
+    FirstBegin,
     /// `begin` of antenna 1's source.
     SourceBegin,
     /// This call of `next` of antenna 1's source, from 0.
@@ -127,7 +129,7 @@ fn all_sources(
     let mut sources = Sources {
         list: Vec::new(alloc),
     };
-    sources.add(first.into_source(Vec::new(alloc), false))?;
+    sources.add(first.into_source(Vec::new(alloc), fault == Fault::FirstBegin))?;
     let fails = fault.source_calls(alloc)?;
     sources.add(second.into_source(fails, fault == Fault::SourceBegin))?;
     for _ in 2..64 {

@@ -1,11 +1,15 @@
 //! The program `spead_corr`: real files and standard output, handed to the correlator.
 #![tactic(auto)]
 
-use corr_cli::{CaptureSink, FileText, StdPrint, capture_sources, no_memory, run_returning};
+use corr_cli::{no_memory, run_returning};
 use corr_model::Unheard;
+use corr_net::{FileText, HeldFiles, ProgramSink, StdPrint, program_sources, say_usage};
 use std::env;
 use std::io::ErrorKind;
 use std::process::ExitCode;
+
+/// The status of words that have no form.
+const USAGE: u8 = 1;
 
 fn main(rt: HostRuntime) -> ExitCode {
     let mut print = StdPrint::new(&rt);
@@ -24,16 +28,22 @@ fn main(rt: HostRuntime) -> ExitCode {
         // A word that is not UTF-8 is a faulty command line, which has no form.
         Err(_) => {}
     }
-    let Ok(mut sources) = capture_sources(rt.alloc(), &rt) else {
+    let Ok(held) = HeldFiles::new(rt.alloc()) else {
+        return ExitCode::from(no_memory(&mut print).code);
+    };
+    let Ok(mut sources) = program_sources(rt.alloc(), &rt, &held) else {
         return ExitCode::from(no_memory(&mut print).code);
     };
     let status = run_returning::<Unheard, _, _, _, _>(
         rt.alloc(),
         words.as_slice(),
-        &mut FileText::new(&rt),
+        &mut FileText::new(&rt, held.settings()),
         sources.as_mut_slice(),
-        &mut CaptureSink::new(&rt),
+        &mut ProgramSink::new(&rt, &held),
         &mut print,
     );
+    if status.code == USAGE {
+        say_usage(&rt, words.as_slice());
+    }
     ExitCode::from(status.code)
 }

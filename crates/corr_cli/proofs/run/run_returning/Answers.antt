@@ -1,14 +1,16 @@
-use Rattle.std.proofs.Common.{◌<◌, length, map, arith, inl}
-use Rattle.std.specs.Prelude.{string_bytes}
+use Rattle.std.proofs.Common.{◌≡◌, ◌<◌, ◌↔◌, length, map, refl, sym, ap, ◌∙◌, subst, arith, inl}
+use Rattle.std.specs.Prelude.{IsNone, string_bytes}
+use Rattle.corr_words.specs.Forms.{form}
 use Rattle.corr_cli.proofs.RunLemmas.{some_of}
-use Rattle.corr_cli.proofs.CauseLemmas.{told_code, usage_exactly, refused_as, refused_code, what_sent, front_sent, source_failed, runs_whole_told}
+use Rattle.corr_cli.proofs.CauseLemmas.{told_code, done_code, usage_exactly, refused_as, refused_code, what_sent, front_sent, source_failed, runs_whole_told}
+use Rattle.corr_cli.proofs.ToolRunLemmas.{faults_same, no_refusal, no_run, no_text_read, of_form, other_usage, tool_says, untouched}
 use Rattle.corr_cli.proofs.run.run_returning.Goals as goal
 
 pub returns-clause-usage : goal.returns-clause-usage
 returns-clause-usage g c =
     let some : 0 < length c.args.sources.now = omega (arith, c.requires.sources) in
     let d = some_of c.args.sources.now some in
-    usage_exactly (map string_bytes c.args.words.now) _ _ _ d c.answer.result c.answer.ensures.comes (told_code _ _ _ _ c.answer.result _ c.tell.ensures)
+    other_usage (map string_bytes c.args.words.now) _ (sym c.if-names_tool.ensures) (usage_exactly (map string_bytes c.args.words.now) _ _ _ d c.answer.result c.answer.ensures.comes (told_code _ _ _ _ c.answer.result _ c.tell.ensures))
 
 pub returns-clause-settings : goal.returns-clause-settings
 returns-clause-settings g c =
@@ -58,3 +60,90 @@ returns-clause-whole g c =
     let some : 0 < length c.args.sources.now = omega (arith, c.requires.sources) in
     let d = some_of c.args.sources.now some in
     runs_whole_told (map string_bytes c.args.words.now) _ _ _ d c.answer.result c.answer.ensures.comes _ _ _ _ c.tell.ensures run has quiet sink_quiet print_quiet text_quiet
+
+pub returns-clause-begun_settings : goal.returns-clause-begun_settings
+returns-clause-begun_settings g c =
+    λ done needs. c.answer.ensures.begun_settings (done_code c.answer.result _ (told_code _ _ _ _ c.answer.result _ c.tell.ensures) done) needs
+
+pub returns-then-names_tool-clause-unused : goal.returns-then-names_tool-clause-unused
+returns-then-names_tool-clause-unused g c =
+    λ run has. no_run (map string_bytes c.args.words.now) (sym c.if-names_tool.ensures) _ run has
+
+pub returns-then-names_tool-clause-output : goal.returns-then-names_tool-clause-output
+returns-then-names_tool-clause-output g c =
+    λ run lists has given whole. no_run (map string_bytes c.args.words.now) (sym c.if-names_tool.ensures) _ run has
+
+pub returns-then-names_tool-clause-taken : goal.returns-then-names_tool-clause-taken
+returns-then-names_tool-clause-taken g c =
+    λ run has whole. no_run (map string_bytes c.args.words.now) (sym c.if-names_tool.ensures) _ run has
+
+pub returns-then-names_tool-clause-front : goal.returns-then-names_tool-clause-front
+returns-then-names_tool-clause-front g c =
+    λ run lists has given four. no_run (map string_bytes c.args.words.now) (sym c.if-names_tool.ensures) _ run has
+
+pub returns-then-names_tool-clause-begun : goal.returns-then-names_tool-clause-begun
+returns-then-names_tool-clause-begun g c =
+    λ run has done. no_run (map string_bytes c.args.words.now) (sym c.if-names_tool.ensures) _ run has
+
+pub returns-then-names_tool-clause-at_sources : goal.returns-then-names_tool-clause-at_sources
+returns-then-names_tool-clause-at_sources g c =
+    λ run has. no_run (map string_bytes c.args.words.now) (sym c.if-names_tool.ensures) _ run has
+
+pub returns-then-names_tool-clause-at_sink : goal.returns-then-names_tool-clause-at_sink
+returns-then-names_tool-clause-at_sink g c =
+    λ run has. no_run (map string_bytes c.args.words.now) (sym c.if-names_tool.ensures) _ run has
+
+pub returns-then-names_tool-clause-source_fault : goal.returns-then-names_tool-clause-source_fault
+returns-then-names_tool-clause-source_fault g c =
+    λ run has three. no_run (map string_bytes c.args.words.now) (sym c.if-names_tool.ensures) _ run has
+
+pub returns-then-names_tool-clause-whole : goal.returns-then-names_tool-clause-whole
+returns-then-names_tool-clause-whole g c =
+    λ run has quiet sink_quiet print_quiet text_quiet. no_run (map string_bytes c.args.words.now) (sym c.if-names_tool.ensures) _ run has
+
+pub returns-then-names_tool-clause-begun_settings : goal.returns-then-names_tool-clause-begun_settings
+returns-then-names_tool-clause-begun_settings g c =
+    λ done needs. no_text_read (map string_bytes c.args.words.now) (sym c.if-names_tool.ensures) needs
+
+pub returns-then-names_tool-clause-refused : goal.returns-then-names_tool-clause-refused
+returns-then-names_tool-clause-refused g c =
+    λ are. no_refusal (map string_bytes c.args.words.now) (sym c.if-names_tool.ensures) _ are
+
+pub returns-then-names_tool-clause-usage : goal.returns-then-names_tool-clause-usage
+returns-then-names_tool-clause-usage g c =
+    subst (λ k. (c.run_tool.result.code ≡ 1) ↔ IsNone k) (sym (of_form (map string_bytes c.args.words.now) (sym c.if-names_tool.ensures)))
+    (tool_says _ _ _ _ _ _ _ c.run_tool.ensures.tool).usage
+
+pub returns-then-names_tool-clause-settings : goal.returns-then-names_tool-clause-settings
+returns-then-names_tool-clause-settings g c =
+    λ two. absurd ((tool_says _ _ _ _ _ _ _ c.run_tool.ensures.tool).not_settings two)
+
+pub returns-then-names_tool-clause-settings_fault : goal.returns-then-names_tool-clause-settings_fault
+returns-then-names_tool-clause-settings_fault g c =
+    λ eight. absurd ((tool_says _ _ _ _ _ _ _ c.run_tool.ensures.tool).not_text eight)
+
+pub returns-then-names_tool-clause-sink_fault : goal.returns-then-names_tool-clause-sink_fault
+returns-then-names_tool-clause-sink_fault g c =
+    (tool_says _ _ _ _ _ _ _ c.run_tool.ensures.tool).sink_rose
+
+pub returns-then-names_tool-clause-print_fault : goal.returns-then-names_tool-clause-print_fault
+returns-then-names_tool-clause-print_fault g c =
+    (tool_says _ _ _ _ _ _ _ c.run_tool.ensures.tool).print_rose
+
+pub returns-then-names_tool-clause-done : goal.returns-then-names_tool-clause-done
+returns-then-names_tool-clause-done g c =
+    λ none.
+    let some : 0 < length c.args.sources.now = omega (arith, c.requires.sources) in
+    let calm = (tool_says _ _ _ _ _ _ _ c.run_tool.ensures.tool).calm none in
+    (faults_same c.args.sources.now c.index-sources-0.result c.run_tool.new.source some c.index-sources-0.is g.S.PacketSource.faults (calm.0 ∙ ap g.S.PacketSource.faults (sym c.index-sources-0.is)), calm.1, calm.2, refl)
+
+pub returns-then-names_tool-clause-no_memory : goal.returns-then-names_tool-clause-no_memory
+returns-then-names_tool-clause-no_memory g c =
+    λ five.
+    let some : 0 < length c.args.sources.now = omega (arith, c.requires.sources) in
+    let out = (tool_says _ _ _ _ _ _ _ c.run_tool.ensures.tool).out five in
+    record {
+      same = untouched c.args.sources.now c.index-sources-0.result c.run_tool.new.source some c.index-sources-0.is (out.0 ∙ sym c.index-sources-0.is);
+      sink_unbegun = out.1.unbegun;
+      nothing = out.1.quiet;
+    }
