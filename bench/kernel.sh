@@ -7,8 +7,7 @@
 # Usage: bench/kernel.sh [PROGRAM [SPECTRA [RUNS]]]
 set -euo pipefail
 
-top=$(cd -- "$(dirname -- "${BASH_SOURCE[0]}")/.." && pwd)
-program=$(readlink -f -- "${1:-$top/spead_corr}")
+source -- "${BASH_SOURCE[0]%/*}/common.sh" "${1:-}"
 spectra=${2:-64}
 runs=${3:-3}
 
@@ -17,9 +16,6 @@ channels=64
 heaps=64
 # As many accumulations as make 256 spectra.
 accumulations=$((256 / spectra > 0 ? 256 / spectra : 1))
-
-folder=$(mktemp -d)
-trap 'rm -rf -- "$folder"' EXIT
 
 # Writes two captures of each antenna: one whose heaps say that antenna, and one whose heaps say another.
 make_captures() {
@@ -141,8 +137,6 @@ seconds() {
     echo "$least"
 }
 
-# The program may have to be built first; without words it prints its usage and changes nothing.
-"$program" >/dev/null || true
 make_captures
 write_c
 cc -O2 -o "$folder/at2" "$folder/plain.c"

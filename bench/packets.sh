@@ -5,8 +5,7 @@
 # Usage: bench/packets.sh [PROGRAM]
 set -euo pipefail
 
-top=$(cd -- "$(dirname -- "${BASH_SOURCE[0]}")/.." && pwd)
-program=$(readlink -f -- "${1:-$top/spead_corr}")
+source -- "${BASH_SOURCE[0]%/*}/common.sh" "${1:-}"
 
 channels=3
 spectra=4096
@@ -14,9 +13,6 @@ heaps=64
 accumulations=40
 pieces=64
 runs=5
-
-folder=$(mktemp -d)
-trap 'rm -rf -- "$folder"' EXIT
 
 # Writes the same stream three times: one packet a heap, and its pieces in order and reversed. Each piece says counter,
 # size, offset and length; the items stand in the piece at offset 0.
@@ -67,8 +63,6 @@ measure() {
     sort -n "$folder/$1.times" | head -n 1
 }
 
-# The program may have to be built first; without words it prints its usage and changes nothing.
-"$program" >/dev/null || true
 make_captures
 whole=$(measure whole)
 for name in ordered reversed; do

@@ -4,8 +4,7 @@
 # Usage: bench/plain.sh [PROGRAM]
 set -euo pipefail
 
-top=$(cd -- "$(dirname -- "${BASH_SOURCE[0]}")/.." && pwd)
-program=$(readlink -f -- "${1:-$top/spead_corr}")
+source -- "${BASH_SOURCE[0]%/*}/common.sh" "${1:-}"
 
 antennas=5
 spectra=256
@@ -13,9 +12,6 @@ heaps=64
 accumulations=768
 # A record: its length, a packet of eight words, four bytes of samples a spectrum.
 record=$((4 + 64 + 4 * spectra))
-
-folder=$(mktemp -d)
-trap 'rm -rf -- "$folder"' EXIT
 
 # Writes the captures of all antennas: a heap at each timestamp, with samples that differ from heap to heap.
 make_captures() {
@@ -67,8 +63,6 @@ measure() {
                name, datagrams, bytes, $1, datagrams / seconds, bytes / seconds, $2 }' <<<"$measured"
 }
 
-# The program may have to be built first; without words it prints its usage and changes nothing.
-"$program" >/dev/null || true
 make_captures
 cut_captures
 measure quarter $((accumulations / 4))

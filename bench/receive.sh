@@ -7,16 +7,12 @@
 # Usage: bench/receive.sh [PROGRAM]
 set -euo pipefail
 
-top=$(cd -- "$(dirname -- "${BASH_SOURCE[0]}")/.." && pwd)
-program=$(readlink -f -- "${1:-$top/spead_corr}")
+source -- "${BASH_SOURCE[0]%/*}/common.sh" "${1:-}"
 
 packets=131072
 pieces=64
 payload=1024
 runs=9
-
-folder=$(mktemp -d)
-trap 'rm -rf -- "$folder"' EXIT
 
 # Writes the three captures. Each packet says counter, size, offset and length; timestamp, antenna 1 and voltages stand
 # in the packet at offset 0.
@@ -92,8 +88,6 @@ measure() {
 }
 
 cc -O3 -o "$folder/receive" "$top/bench/receive.c"
-# The program may have to be built first; without words it prints its usage and changes nothing.
-"$program" >/dev/null || true
 make_captures
 measure single 1 "$packets"
 measure ordered "$pieces" "$((packets / pieces))"
