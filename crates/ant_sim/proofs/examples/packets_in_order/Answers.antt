@@ -1,0 +1,8 @@
+use Rattle.std.proofs.Common.{refl}
+use Rattle.rand_core.specs.Steps.{first_words, stream_of, word_bytes}
+use Rattle.rand_core.specs.Stream.{fill_bytes}
+use Rattle.ant_sim.proofs.examples.packets_in_order.Goals as goal
+
+pub returns : goal.returns
+unfolding first_words fill_bytes stream_of word_bytes
+returns c = refl
