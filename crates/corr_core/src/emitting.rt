@@ -80,7 +80,7 @@ fn emit_last<E: Emit, K: PacketSink>(
 
 /// Sends the heap of a number, before the first the head, and after the last the stop. `SinkFault`
 /// comes only where the sink's count of faults rose; then a front of these strings was sent.
-pub(crate) fn emit_with<M: Made, E: Emit<Out = M>, K: PacketSink>(
+pub fn emit_with<M: Made, E: Emit<Out = M>, K: PacketSink>(
     emit: &mut E,
     plan: &Plan,
     number: u64,

@@ -14,6 +14,7 @@ mod tests;
 mod whole;
 mod works;
 
+pub use emitting::emit_with;
 pub use event::{Event, Stepped};
 pub use laws::plain_heaps_are_the_output;
 pub use prepared::{NewFeeds, Prepared, PreparedOf, prepare, prepare_with};

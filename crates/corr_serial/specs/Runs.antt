@@ -47,6 +47,11 @@ pub record AreGiven {S : Type 0} (plan : Plan) (gives : S → Option (List (List
   pub told : (a : ℕ) (d : S) → a < plan.antennas → gives (slice_index_or old a d) ≡ Some (slice_index_or lists a [])
   pub none_given : (a : ℕ) (d : S) → a < plan.antennas → given (slice_index_or old a d) ≡ 0
 
+-- what a source tells that it gives, where a run speaks of it
+abbrev pub known : {S A : Type 0} → Bool → (S → Option A) → S → Option A
+known true told = told
+known false told = λ s. None
+
 -- each of the plan's sources that tells what it gives, and gave nothing before, gave exactly the strings that count
 pub record GaveTaken {S : Type 0} (plan : Plan) (gives : S → Option (List (List ℕ))) (given : S → ℕ) (old now : List S) : Type 0 where
   pub each : (a : ℕ) (d : S) (strings : List (List ℕ)) → a < plan.antennas → gives (slice_index_or old a d) ≡ Some strings → given (slice_index_or old a d) ≡ 0

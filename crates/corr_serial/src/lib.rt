@@ -12,7 +12,7 @@ mod values;
 
 pub use outcome::{Outcome, Ran, Reports};
 pub use prepared::{NewFeeds, Prepared, prepare, prepare_with};
-pub use serial::{correlate_serial, serial_with};
+pub use serial::{correlate_serial, first_fault, ran_as, serial_with};
 
 #[cfg(test)]
 mod tests;

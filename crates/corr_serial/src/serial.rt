@@ -40,8 +40,8 @@ fn is_fault(ended: Option<Ending>) -> bool
     matches!(ended, Some(Ending::Fault))
 }
 
-// The first report of a stream that ended by a fault.
-fn first_fault(reports: &[StreamReport]) -> Option<u32>
+/// The first report of a stream that ended by a fault.
+pub fn first_fault(reports: &[StreamReport]) -> Option<u32>
     requires { length reports.now ≤ 64 }
     ensures { IsFirstFault reports.now result }
 {
@@ -53,8 +53,8 @@ fn first_fault(reports: &[StreamReport]) -> Option<u32>
     None
 }
 
-// How a run ended: whether the sink failed, and the least source that did.
-fn ran_as(is_whole: bool, fault: Option<u32>) -> Ran
+/// How a run ended: whether the sink failed, and the least source that did.
+pub fn ran_as(is_whole: bool, fault: Option<u32>) -> Ran
     ensures { result ≡ ran_as is_whole fault }
 {
     match fault {
