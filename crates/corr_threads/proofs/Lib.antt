@@ -1,0 +1,3 @@
+pub mod DispatchLemmas
+pub mod ReceiverLemmas
+pub mod WorkerLemmas

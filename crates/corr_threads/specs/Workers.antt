@@ -1,0 +1,69 @@
+-- What a worker shows, what it keeps, and its turns. This project's own.
+use Rattle.std.specs.Prelude.{◌≡◌, ℕ, ◌+◌, ◌-◌, ◌^◌, ◌<◌, ◌≤◌, min, List, length, get_or, Option, Some, None}
+use Rattle.corr_model.specs.declared.plan.Plan.{Plan}
+use Rattle.corr_model.specs.Plans.{Fits}
+use Rattle.slot_ring.specs.declared.held.Held.{Held}
+use Rattle.slot_ring.specs.declared.work.Stage.TheVariants.{Free}
+use Rattle.slot_ring.specs.Slots.{WorkView}
+use Rattle.slot_ring.specs.Answers.{RefusesTake}
+use Rattle.corr_threads.specs.declared.turn.Turn.{Turn}
+use Rattle.corr_threads.specs.declared.turn.Turn.TheVariants as turns
+
+-- what a worker shows: for each slot what it showed when it refused last, and how many works were computed
+pub record WorkerView : Type 0 where
+  pub plan : Plan
+  pub held : List (Option Held)
+  pub computed : ℕ
+
+-- what a worker's type keeps
+pub record IsWorker (v : WorkerView) (work : WorkView) : Type 0 where
+  pub fits : Fits v.plan
+  pub same_plan : work.plan ≡ v.plan
+  pub free : work.stage ≡ Free
+  pub each_slot : length v.held ≡ v.plan.slots
+
+-- what the slot showed when it refused last can't be taken
+pub record RefusesAt (v : WorkerView) (slot : ℕ) : Type 0 where
+  pub shown : Held
+  pub is_held : get_or v.held slot None ≡ Some shown
+  pub refuses : RefusesTake shown v.plan
+
+-- so it is with each of the first slots
+abbrev pub RefusesTo : WorkerView → ℕ → Type 0
+RefusesTo v count = (s : ℕ) → s < count → RefusesAt v s
+
+-- so it is with each slot
+abbrev pub RefusesEach : WorkerView → Type 0
+RefusesEach v = RefusesTo v v.plan.slots
+
+-- what the slot showed when it refused last has a number past the last
+pub record PastAt (v : WorkerView) (slot : ℕ) : Type 0 where
+  pub shown : Held
+  pub is_held : get_or v.held slot None ≡ Some shown
+  pub past : v.plan.accumulations ≤ shown.number
+
+-- so it is with each of the first slots
+abbrev pub PastTo : WorkerView → ℕ → Type 0
+PastTo v count = (s : ℕ) → s < count → PastAt v s
+
+-- so it is with each slot
+abbrev pub EachPast : WorkerView → Type 0
+EachPast v = PastTo v v.plan.slots
+
+-- why a turn answers this; the count of computed works goes up by one, and stays at 2^64 - 1 once it is there
+abbrev pub WorkerCause : WorkerView → Turn → WorkerView → Type 0
+WorkerCause old turns.Moved new = new.computed ≡ min (old.computed + 1) (2 ^ 64 - 1)
+WorkerCause old turns.Waits new = RefusesEach new
+WorkerCause old turns.Done new = EachPast new
+
+-- what a turn that does not move keeps
+abbrev pub WorkerRests : WorkerView → Turn → WorkerView → Type 0
+WorkerRests old turns.Moved new = Unit {0}
+WorkerRests old turns.Waits new = new.computed ≡ old.computed
+WorkerRests old turns.Done new = new.computed ≡ old.computed
+
+-- a turn of a worker
+pub record WorkerTurn (old : WorkerView) (answer : Turn) (new : WorkerView) : Type 0 where
+  pub same_plan : new.plan ≡ old.plan
+  pub cause : WorkerCause old answer new
+  pub rests : WorkerRests old answer new
