@@ -6,6 +6,7 @@ mod held;
 mod hint;
 mod label;
 mod print;
+mod progress;
 mod raw;
 mod sink;
 mod source;
@@ -13,7 +14,8 @@ mod text;
 
 pub use held::{Held, HeldFiles};
 pub use hint::say_usage;
-pub use print::StdPrint;
+pub use print::{PrintFault, StdPrint};
+pub use progress::Progress;
 pub use sink::ProgramSink;
-pub use source::{ProgramSource, program_sources};
+pub use source::{ProgramSource, program_source};
 pub use text::FileText;

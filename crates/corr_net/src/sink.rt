@@ -5,6 +5,7 @@ ghost use Rattle.corr_site.specs.Outside.{HasCause};
 
 use crate::held::HeldFiles;
 use crate::label::{Label, Role};
+use crate::progress::Progress;
 use crate::raw::{Opened, one_more};
 use capture_file::CaptureWriter;
 use corr_site::{Failed, PacketSink, Place};
@@ -13,6 +14,7 @@ use std::io;
 use std::io::ErrorKind;
 use std::net::{Net, SocketAddr, ToSocketAddrs, UdpSocket};
 use std::rt::Files;
+use std::time::Clock;
 
 /// The greatest length of a byte string.
 const STRING_LIMIT: usize = 65535;
@@ -42,6 +44,7 @@ pub struct ProgramSink<'a, R: Files + Eprint> {
     held: &'a HeldFiles,
     output: Option<Output<'a, R>>,
     label: Label,
+    progress: Progress,
     is_broken: bool,
     faults: u64,
 }
@@ -72,9 +75,10 @@ fn socket_to<R: Net>(system: &R, address: &str) -> io::Result<Sending> {
     Ok(Sending { socket, to })
 }
 
-impl<'a, R: Files + Net + Eprint> ProgramSink<'a, R> {
-    /// A sink that is not begun, and makes no file anew that is one of those held.
-    pub fn new(system: &'a R, held: &'a HeldFiles) -> Self
+impl<'a, R: Files + Net + Clock + Eprint> ProgramSink<'a, R> {
+    /// A sink that is not begun, and makes no file anew that is one of those held. It says its
+    /// progress to a person who watches.
+    pub fn new(system: &'a R, held: &'a HeldFiles, progress: Progress) -> Self
         ensures { is_some result.output ≡ false }
     {
         ProgramSink {
@@ -82,6 +86,7 @@ impl<'a, R: Files + Net + Eprint> ProgramSink<'a, R> {
             held,
             output: None,
             label: Label::new(Role::Output, ""),
+            progress,
             is_broken: false,
             faults: 0,
         }
@@ -148,6 +153,7 @@ impl<'a, R: Files + Net + Eprint> ProgramSink<'a, R> {
         ensures broken { is_ok result ≡ false → self.new.is_broken ≡ true }
     {
         if !self.is_broken && self.put(bytes) {
+            self.progress.sent_one(self.system);
             return Ok(());
         }
         self.is_broken = true;
@@ -156,7 +162,7 @@ impl<'a, R: Files + Net + Eprint> ProgramSink<'a, R> {
     }
 }
 
-impl<R: Files + Net + Eprint> PacketSink for ProgramSink<'_, R> {
+impl<R: Files + Net + Clock + Eprint> PacketSink for ProgramSink<'_, R> {
     ghost sent = { λ _. None };
 
     ghost begun = { λ s. is_some s.output };
@@ -175,6 +181,7 @@ impl<R: Files + Net + Eprint> PacketSink for ProgramSink<'_, R> {
             self.create(name)
         };
         if self.output.is_some() {
+            self.progress.begin(self.system);
             return Ok(());
         }
         self.faults = one_more(self.faults);

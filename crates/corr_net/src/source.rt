@@ -1,17 +1,16 @@
 //! A capture file or a UDP socket as a source of byte strings.
 
-ghost use Rattle.std.specs.Prelude.{◌≡◌, ◌≤◌, true, false, None, IfOk, All, is_some};
-ghost use Rattle.std.specs.Vec.{vec_len};
+ghost use Rattle.std.specs.Prelude.{◌≡◌, ◌≤◌, true, false, None, IfOk, is_some};
 ghost use Rattle.corr_site.specs.Outside.{NextFits, Rises, NextHasCause};
 ghost use Rattle.corr_net.specs.Adapters.{FailsAgain};
 
-use crate::held::{Held, HeldFiles, SOURCES};
+use crate::held::{Held, HeldFiles};
 use crate::label::{Label, Role};
+use crate::print::PrintFault;
 use crate::raw::{Opened, one_more};
 use capture_file::{CaptureReader, CaptureRefusal, Captured};
 use corr_model::Observation;
-use corr_site::{Failed, Next, NoMemory, PacketSource, Place};
-use std::alloc::Global;
+use corr_site::{Failed, Next, PacketSource, Place};
 use std::fs::OpenFile;
 use std::io::ErrorKind;
 use std::net::{Net, UdpSocket};
@@ -40,13 +39,14 @@ struct Records<'a, R: Files + Eprint> {
     ghost begun: { reader.begun ≡ true },
 }
 
-/// A capture file that gives its records, or a UDP address that gives the datagrams that come to it
-/// and never ends. It tells nothing of them. After a failure it fails at every call of `next`, until
-/// it is begun again.
+/// A capture file that gives its records, or a UDP address that gives the datagrams that come to
+/// it, and ends only after standard output failed. It tells nothing of them. After a failure it
+/// fails at every call of `next`, until it is begun again.
 #[derive(Drop)]
 pub struct ProgramSource<'a, R: Files + Eprint> {
     system: &'a R,
     held: &'a Held,
+    print: &'a PrintFault,
     input: Option<Input<'a, R>>,
     label: Label,
     given: u64,
@@ -54,21 +54,17 @@ pub struct ProgramSource<'a, R: Files + Eprint> {
     faults: u64,
 }
 
-/// As many sources as a run has room for, none of them begun. Each notes the file that it opens in
-/// `held`. `NoMemory` comes only for want of memory.
-pub fn program_sources<'a, R: Files + Net + Eprint>(
-    alloc: Global,
+/// The source of this number, not begun. It notes the file that it opens in `held`, and looks at
+/// `print`.
+pub fn program_source<'a, R: Files + Net + Eprint>(
     system: &'a R,
     held: &'a HeldFiles,
-) -> Result<Vec<ProgramSource<'a, R>>, NoMemory>
-    ensures count { IfOk result (λ v. vec_len v ≡ 64) }
-    ensures unbegun { IfOk result (λ v. All (λ s. is_some s.input ≡ false) v.items) }
+    number: usize,
+    print: &'a PrintFault,
+) -> ProgramSource<'a, R>
+    ensures { is_some result.input ≡ false }
 {
-    let mut sources = Vec::new(alloc);
-    for number in 0..SOURCES {
-        sources.push(ProgramSource::new(system, held.input(number)))?;
-    }
-    Ok(sources)
+    ProgramSource::new(system, held.input(number), print)
 }
 
 /// Why a capture file is refused, behind so many records.
@@ -83,6 +79,12 @@ impl fmt::Display for RefusedAt {
         let records = self.records;
         match self.cause {
             CaptureRefusal::Magic => write!(f, "no capture: it does not begin with SPCAPT01"),
+            CaptureRefusal::Cut if records == 0 => {
+                write!(
+                    f,
+                    "the file ends in its first 8 bytes or in its first record"
+                )
+            }
             CaptureRefusal::Cut => write!(f, "record {records}: the file ends in the middle of it"),
             CaptureRefusal::TooLong(len) => {
                 write!(
@@ -108,13 +110,14 @@ fn receive(socket: &UdpSocket, buf: &mut [u8; 65536]) -> std::io::Result<usize>
 }
 
 impl<'a, R: Files + Net + Eprint> ProgramSource<'a, R> {
-    /// A source that is not begun. It notes the file that it opens in `held`.
-    pub fn new(system: &'a R, held: &'a Held) -> Self
+    /// A source that is not begun. It notes the file that it opens in `held`, and looks at `print`.
+    pub fn new(system: &'a R, held: &'a Held, print: &'a PrintFault) -> Self
         ensures { is_some result.input ≡ false }
     {
         ProgramSource {
             system,
             held,
+            print,
             input: None,
             label: Label::new(Role::Input(0), ""),
             given: 0,
@@ -158,6 +161,8 @@ impl<'a, R: Files + Net + Eprint> ProgramSource<'a, R> {
                 }
                 Captured::Failed => Next::Failed,
             },
+            // Nobody reads what comes of it any more, and it would never end by itself.
+            Some(Input::Socket(_)) if self.print.has_come() => Next::End,
             Some(Input::Socket(socket)) => match receive(socket, buf) {
                 Ok(len) => Next::Packet(len),
                 Err(error) => {
