@@ -11,8 +11,8 @@ use Rattle.corr_serial.specs.Hearing.{is_fault}
 use Rattle.corr_serial.specs.Runs.{AreGiven, AreReports, AreWholeReports, GaveTaken, list_of}
 use Rattle.corr_cli.specs.declared.said.Telling.{Telling}
 use Rattle.corr_cli.specs.declared.answer.Answer.{Answer}
-use Rattle.corr_cli.specs.declared.answer.Answer.TheVariants.{Usage, SettingsFault, Settings, NotBegun, Sent, Summed, SinkFault, NoMemory}
-use Rattle.corr_cli.specs.Runs.{AppendsPackets, Seen, SentAll, SentFront, SentNothing, AllBegun, IsOverBegun, IsSummed, RunsPlan}
+use Rattle.corr_cli.specs.declared.answer.Answer.TheVariants.{Usage, SettingsFault, Settings, NotBegun, Sent, Summed, Simulated, SinkFault, NoMemory}
+use Rattle.corr_cli.specs.Runs.{AppendsPackets, Seen, SentAll, SentFront, AllBegun, IsOverBegun, IsSummed, RunsPlan}
 
 -- what was seen before the sources and the sink were begun, which changed no list, no count and nothing that was sent
 pub record BeginsQuietly {S : Type 0} (mid : Seen S) (old : List S) (sent_before : Option (List (List ℕ))) (sink_before : ℕ) : Type 0 where
@@ -44,6 +44,7 @@ module _ {S : Type 0} (plan : Plan) (mid : Seen S) (old : List S) (sent_before :
 
   seen_before : Seen S
   seen_before = record {
+    knows = mid.knows;
     gives = mid.gives;
     given = mid.given;
     begun = mid.begun;
@@ -102,6 +103,7 @@ module _ {S : Type 0} (plan : Plan) (mid : Seen S) (old : List S) (sent_before :
   }
 
   pub runs_before : (telling : Telling) (r : Answer) → IsOverBegun r → RunsPlan telling plan mid r → RunsPlan telling plan (record {
+    knows = mid.knows;
     gives = mid.gives;
     given = mid.given;
     begun = mid.begun;
@@ -123,6 +125,7 @@ module _ {S : Type 0} (plan : Plan) (mid : Seen S) (old : List S) (sent_before :
   runs_before telling SettingsFault over h = absurd over
   runs_before telling (Settings refusal) over h = absurd over
   runs_before telling NoMemory over h = absurd over
+  runs_before telling (Simulated packets) over h = absurd over
 
 -- the sink could not be begun: nothing was sent, a front of any output
 pub sink_not_begun : {S : Type 0} (plan : Plan) (seen : Seen S) → AreBegun seen.begun plan.antennas seen.now → seen.sent ≡ seen.sent_before → seen.sink_begun ≡ false

@@ -10,8 +10,8 @@ use Rattle.corr_words.specs.declared.command.Command.TheVariants.{Plain, Correla
 use Rattle.corr_settings.specs.declared.settings.Settings.{Settings as Run}
 use Rattle.corr_settings.specs.declared.refusal.SetRefusal.{SetRefusal}
 use Rattle.corr_cli.specs.declared.answer.Answer.{Answer}
-use Rattle.corr_cli.specs.declared.answer.Answer.TheVariants.{Usage, SettingsFault, Settings, NotBegun, Sent, Summed, SinkFault, NoMemory}
-use Rattle.corr_cli.specs.Said.{AreRefused, HasRun, form_of, needs_text, of_plain, said, said_by}
+use Rattle.corr_cli.specs.declared.answer.Answer.TheVariants.{Usage, SettingsFault, Settings, NotBegun, Sent, Summed, Simulated, SinkFault, NoMemory}
+use Rattle.corr_cli.specs.Said.{AreRefused, HasRun, form_of, needs_text, of_plain, said_by}
 use Rattle.corr_cli.specs.Says.{HasSaid, MayGoOn, telling_of}
 use Rattle.corr_cli.specs.Texts.{Tells, code_after, code_of, unprinted, unprinted_code}
 use Rattle.corr_serial.specs.Sources.{KeepsEach, AreBegun, IsLeastRise}
@@ -141,6 +141,7 @@ module _ {S : Type 0} (words : List (List ℕ)) (seen : Seen S) (text : TextSeen
   what_sent (NotBegun antenna) comes told run has (inr late) = not_all_begun run.plan antenna (runs_of (NotBegun antenna) run comes has) late.1
   what_sent (Sent packets fault) comes told run has whole = record { packets = packets; fault = fault; sent = (runs_of (Sent packets fault) run comes has).1 }
   what_sent (Summed sent reports fault) comes told run has whole = record { packets = sent.packets; fault = fault; sent = (runs_of (Summed sent reports fault) run comes has).1 }
+  what_sent (Simulated packets) comes told run has whole = absurd comes
   what_sent SinkFault comes told run has whole = clash is_whole_code code 4 (told_as code 4 told) (whole_code code seen.begun run.plan seen.now whole) refl
   what_sent NoMemory comes told run has whole = clash is_whole_code code 5 (told_as code 5 told) (whole_code code seen.begun run.plan seen.now whole) refl
 
@@ -154,6 +155,7 @@ module _ {S : Type 0} (words : List (List ℕ)) (seen : Seen S) (text : TextSeen
   front_sent (NotBegun antenna) comes told run has four = clash_at code 4 3 (told_as code 3 told) four refl refl
   front_sent (Sent packets fault) comes told run has four = not_late fault code 4 told four refl refl refl refl
   front_sent (Summed sent reports fault) comes told run has four = not_late fault code 4 told four refl refl refl refl
+  front_sent (Simulated packets) comes told run has four = absurd comes
   front_sent NoMemory comes told run has four = clash_at code 4 5 (told_as code 5 told) four refl refl
 
   -- the fault of a run that sent all
@@ -176,6 +178,7 @@ module _ {S : Type 0} (words : List (List ℕ)) (seen : Seen S) (text : TextSeen
       record { antenna = antenna; least = least_alone seen.faults run.plan.antennas antenna seen.old seen.now failed.rose; unsent = λ _. failed.quiet.nothing; later = λ _. failed.later }
   source_failed (Sent packets fault) comes told run has three = late_fault run.plan packets fault (runs_of (Sent packets fault) run comes has).1 told three
   source_failed (Summed sent reports fault) comes told run has three = late_fault run.plan sent.packets fault (runs_of (Summed sent reports fault) run comes has).1 told three
+  source_failed (Simulated packets) comes told run has three = absurd comes
   source_failed Usage comes told run has three = clash_at code 3 1 (told_as code 1 told) three refl refl
   source_failed SettingsFault comes told run has three = clash_at code 3 8 (told_as code 8 told) three refl refl
   source_failed (Settings refusal) comes told run has three = clash_at code 3 2 (told_as code 2 told) three refl refl
@@ -192,6 +195,7 @@ module _ {S : Type 0} (words : List (List ℕ)) (seen : Seen S) (text : TextSeen
       → KeepsEach seen.faults seen.old seen.now × (seen.sink_faults ≡ seen.sink_faults_before) × (text.faults ≡ text.faults_before)
   none_failed (Sent packets fault) comes e none = let quiet = quiet_late comes.of.run.plan packets fault comes.of.runs.1 e none in (quiet.0, quiet.1, comes.calm)
   none_failed (Summed sent reports fault) comes e none = let quiet = quiet_late comes.of.run.plan sent.packets fault comes.of.runs.1 e none in (quiet.0, quiet.1, comes.calm)
+  none_failed (Simulated packets) comes e none = absurd comes
   none_failed Usage comes e none = clash_at code 0 1 e none refl refl
   none_failed SettingsFault comes e none = clash_at code 0 8 e none refl refl
   none_failed (Settings refusal) comes e none = clash_at code 0 2 e none refl refl
@@ -208,6 +212,7 @@ module _ {S : Type 0} (words : List (List ℕ)) (seen : Seen S) (text : TextSeen
       → (Rose seen.sink_faults_before seen.sink_faults → ⊥) → (Rose text.faults_before text.faults → ⊥) → (code ≡ 0) ⊎ (code ≡ 5)
   runs_whole (Sent packets fault) comes e run has quiet sink_quiet text_quiet = runs_late run.plan packets fault (runs_of (Sent packets fault) run comes has).1 e quiet
   runs_whole (Summed sent reports fault) comes e run has quiet sink_quiet text_quiet = runs_late run.plan sent.packets fault (runs_of (Summed sent reports fault) run comes has).1 e quiet
+  runs_whole (Simulated packets) comes e run has quiet sink_quiet text_quiet = absurd comes
   runs_whole NoMemory comes e run has quiet sink_quiet text_quiet = inr e
   runs_whole Usage comes e run has quiet sink_quiet text_quiet = some_form words text.text (Ok run) has comes.why
   runs_whole SettingsFault comes e run has quiet sink_quiet text_quiet = absurd (text_quiet comes.rose.rose)
@@ -228,6 +233,7 @@ module _ {S : Type 0} (words : List (List ℕ)) (seen : Seen S) (text : TextSeen
   sink_failed (NotBegun antenna) comes told four = clash_at code 4 3 (told_as code 3 told) four refl refl
   sink_failed (Sent packets fault) comes told four = not_late fault code 4 told four refl refl refl refl
   sink_failed (Summed sent reports fault) comes told four = not_late fault code 4 told four refl refl refl refl
+  sink_failed (Simulated packets) comes told four = absurd comes
   sink_failed NoMemory comes told four = clash_at code 4 5 (told_as code 5 told) four refl refl
 
   -- at status 8 the count of the settings source rose
@@ -238,6 +244,7 @@ module _ {S : Type 0} (words : List (List ℕ)) (seen : Seen S) (text : TextSeen
   text_failed (NotBegun antenna) comes told eight = clash_at code 8 3 (told_as code 3 told) eight refl refl
   text_failed (Sent packets fault) comes told eight = not_late fault code 8 told eight refl refl refl refl
   text_failed (Summed sent reports fault) comes told eight = not_late fault code 8 told eight refl refl refl refl
+  text_failed (Simulated packets) comes told eight = absurd comes
   text_failed SinkFault comes told eight = clash_at code 8 4 (told_as code 4 told) eight refl refl
   text_failed NoMemory comes told eight = clash_at code 8 5 (told_as code 5 told) eight refl refl
 
@@ -251,6 +258,7 @@ module _ {S : Type 0} (words : List (List ℕ)) (seen : Seen S) (text : TextSeen
   nothing_begun (NotBegun antenna) comes told five = clash_at code 5 3 (told_as code 3 told) five refl refl
   nothing_begun (Sent packets fault) comes told five = not_late fault code 5 told five refl refl refl refl
   nothing_begun (Summed sent reports fault) comes told five = not_late fault code 5 told five refl refl refl refl
+  nothing_begun (Simulated packets) comes told five = absurd comes
   nothing_begun SinkFault comes told five = clash_at code 5 4 (told_as code 4 told) five refl refl
 
   -- at status 2 the settings are refused
@@ -261,6 +269,7 @@ module _ {S : Type 0} (words : List (List ℕ)) (seen : Seen S) (text : TextSeen
   refused_as (NotBegun antenna) comes told two = clash_at code 2 3 (told_as code 3 told) two refl refl
   refused_as (Sent packets fault) comes told two = not_late fault code 2 told two refl refl refl refl
   refused_as (Summed sent reports fault) comes told two = not_late fault code 2 told two refl refl refl refl
+  refused_as (Simulated packets) comes told two = absurd comes
   refused_as SinkFault comes told two = clash_at code 2 4 (told_as code 4 told) two refl refl
   refused_as NoMemory comes told two = clash_at code 2 5 (told_as code 5 told) two refl refl
 
@@ -273,6 +282,7 @@ module _ {S : Type 0} (words : List (List ℕ)) (seen : Seen S) (text : TextSeen
   one_of (NotBegun antenna) comes told none = has_form words comes.of.said.command comes.of.said.is_form none
   one_of (Sent packets fault) comes told none = has_form words comes.of.said.command comes.of.said.is_form none
   one_of (Summed sent reports fault) comes told none = has_form words comes.of.said.command comes.of.said.is_form none
+  one_of (Simulated packets) comes told none = absurd comes
   one_of SinkFault comes told none = has_form words comes.of.said.command comes.of.said.is_form none
 
   one_only : (answer : Answer) → Comes words seen text answer → (code ≡ code_of answer) ⊎ (code ≡ unprinted_code answer) → code ≡ 1 → form_of words ≡ None
@@ -282,6 +292,7 @@ module _ {S : Type 0} (words : List (List ℕ)) (seen : Seen S) (text : TextSeen
   one_only (NotBegun antenna) comes told one = clash_at code 1 3 (told_as code 3 told) one refl refl
   one_only (Sent packets fault) comes told one = not_late fault code 1 told one refl refl refl refl
   one_only (Summed sent reports fault) comes told one = not_late fault code 1 told one refl refl refl refl
+  one_only (Simulated packets) comes told one = absurd comes
   one_only SinkFault comes told one = clash_at code 1 4 (told_as code 4 told) one refl refl
   one_only NoMemory comes told one = clash_at code 1 5 (told_as code 5 told) one refl refl
 
@@ -298,6 +309,7 @@ module _ {S : Type 0} (words : List (List ℕ)) (seen : Seen S) (text : TextSeen
   refused_code (NotBegun antenna) comes told are = not_run words text.text are comes.of.run comes.of.said
   refused_code (Sent packets fault) comes told are = not_run words text.text are comes.of.run comes.of.said
   refused_code (Summed sent reports fault) comes told are = not_run words text.text are comes.of.run comes.of.said
+  refused_code (Simulated packets) comes told are = absurd comes
   refused_code SinkFault comes told are = not_run words text.text are comes.of.run comes.of.said
 
 -- no answer's own code is 6, and none that was not printed whole has 0
@@ -312,6 +324,7 @@ never_six (Settings refusal) e = clash_at 2 6 2 refl e refl refl
 never_six (NotBegun antenna) e = clash_at 3 6 3 refl e refl refl
 never_six (Sent packets fault) e = never_six_after fault e
 never_six (Summed sent reports fault) e = never_six_after fault e
+never_six (Simulated packets) e = clash_at 0 6 0 refl e refl refl
 never_six SinkFault e = clash_at 4 6 4 refl e refl refl
 never_six NoMemory e = clash_at 5 6 5 refl e refl refl
 
@@ -326,6 +339,7 @@ never_zero (Settings refusal) e = clash_at 2 0 2 refl e refl refl
 never_zero (NotBegun antenna) e = clash_at 3 0 3 refl e refl refl
 never_zero (Sent packets fault) e = never_zero_after fault e
 never_zero (Summed sent reports fault) e = never_zero_after fault e
+never_zero (Simulated packets) e = clash_at 6 0 6 refl e refl refl
 never_zero SinkFault e = clash_at 4 0 4 refl e refl refl
 never_zero NoMemory e = clash_at 5 0 5 refl e refl refl
 
@@ -341,6 +355,7 @@ done_cut (Settings refusal) e = clash_at 2 6 2 refl e refl refl
 done_cut (NotBegun antenna) e = clash_at 3 6 3 refl e refl refl
 done_cut (Sent packets fault) e = done_after fault e
 done_cut (Summed sent reports fault) e = done_after fault e
+done_cut (Simulated packets) e = refl
 done_cut SinkFault e = clash_at 4 6 4 refl e refl refl
 done_cut NoMemory e = clash_at 5 6 5 refl e refl refl
 

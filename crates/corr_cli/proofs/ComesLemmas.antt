@@ -1,11 +1,10 @@
 -- What a run that was asked for comes to.
-use Rattle.std.proofs.Common.{◌≡◌, ℕ, List, Option, Some, None, refl, sym, subst}
-use Rattle.std.specs.Prelude.{Ok, Err}
+use Rattle.std.proofs.Common.{◌≡◌, ℕ, List, Option, sym, subst}
 use Rattle.corr_cli.specs.declared.said.Asked.{Asked}
 use Rattle.corr_cli.specs.declared.answer.Answer.{Answer}
-use Rattle.corr_cli.specs.declared.answer.Answer.TheVariants.{Usage, SettingsFault, Settings, NotBegun, Sent, Summed, SinkFault, NoMemory}
-use Rattle.corr_cli.specs.Says.{IsAsked, MayGoOn, telling_of}
-use Rattle.corr_cli.specs.Runs.{Comes, Nothing, OfRun, RunsPlan, RunsSaid, Seen}
+use Rattle.corr_cli.specs.declared.answer.Answer.TheVariants.{Usage, SettingsFault, Settings, NotBegun, Sent, Summed, Simulated, SinkFault, NoMemory}
+use Rattle.corr_cli.specs.Says.{IsAsked}
+use Rattle.corr_cli.specs.Runs.{Comes, OfRun, RunsPlan, Seen}
 use Rattle.corr_cli.proofs.SaidLemmas.{asked_may_go}
 
 module _ {S : Type 0} (words : List (List ℕ)) (seen : Seen S) (text : Option (List ℕ)) (before now : ℕ) (asked : Asked) (is : IsAsked words text asked) (calm : now ≡ before) where
@@ -21,6 +20,7 @@ module _ {S : Type 0} (words : List (List ℕ)) (seen : Seen S) (text : Option (
   comes_by SinkFault runs = of_run SinkFault runs
   comes_by (NotBegun antenna) runs = of_run (NotBegun antenna) runs
   comes_by NoMemory runs = record { why = asked_may_go words text asked.settings is.said; untouched = runs; calm = calm }
+  comes_by (Simulated packets) runs = absurd runs
   comes_by Usage runs = absurd runs
   comes_by SettingsFault runs = absurd runs
   comes_by (Settings refusal) runs = absurd runs

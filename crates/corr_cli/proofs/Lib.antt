@@ -10,3 +10,8 @@ pub mod SaysLemmas
 pub mod ComesLemmas
 pub mod ToolLemmas
 pub mod ToolRunLemmas
+pub mod FormLemmas
+pub mod SimulatedLemmas
+pub mod SimulatedRunLemmas
+pub mod ThreadLemmas
+pub mod OutputLemmas

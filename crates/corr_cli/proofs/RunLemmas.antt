@@ -1,6 +1,6 @@
 -- What a run over begun sources comes to, by what was said of it.
-use Rattle.std.proofs.Common.{◌≡◌, ◌<◌, ◌≤◌, ◌+◌, ◌-◌, ◌^◌, ℕ, List, [], ◌∷◌, length, Option, Some, None, refl, sym, ◌∙◌, ap, arith}
-use Rattle.std.specs.Prelude.{min, true, fold}
+use Rattle.std.proofs.Common.{◌≡◌, ◌<◌, ◌≤◌, ◌+◌, ◌-◌, ◌^◌, ℕ, List, [], ◌∷◌, length, Option, Some, None, refl, ap, arith}
+use Rattle.std.specs.Prelude.{true}
 use Rattle.corr_model.specs.declared.plan.Plan.{Plan}
 use Rattle.corr_model.specs.Plans.{Fits}
 use Rattle.corr_model.specs.Visibilities.{Lists}
@@ -45,13 +45,13 @@ module _ {S : Type 0} (plan : Plan) (seen : Seen S) (sent : Sent) (fits : Fits p
   -- all was sent
   all_sent : (ran : Ran) (fault : Option ℕ) → IsWhole ran
       → ((lists : List (List (List ℕ))) → AreGiven plan seen.gives seen.given seen.old lists → SendsWhole seen.sent_before seen.sent nothing sent (output plan (list_of lists)))
-      → SendsOutput plan seen.sent_before seen.sent sent
+      → (seen.knows ≡ true → SendsOutput plan seen.sent_before seen.sent sent)
       → GaveTaken plan seen.gives seen.given seen.old seen.now
       → HasLeastRise seen.faults plan.antennas seen.old seen.now fault → seen.sink_faults ≡ seen.sink_faults_before
       → SentAll plan seen sent.packets fault
   all_sent ran fault whole sends some taken least kept = record {
     all_begun = record { sources = sources; sink = sink };
-    count = λ lists. counted_output plan sent some.lists lists fits some.sends.counted;
+    count = λ known lists. counted_output plan sent (some known).lists lists fits (some known).sends.counted;
     output = λ lists is. (sends lists is).appended;
     taken = taken;
     least = least;
@@ -65,16 +65,16 @@ module _ {S : Type 0} (plan : Plan) (seen : Seen S) (sent : Sent) (fits : Fits p
 
   pub comes_by : (telling : Telling) (ran : Ran) (reports : List StreamReport)
       → ((lists : List (List (List ℕ))) → AreGiven plan seen.gives seen.given seen.old lists → SendsBy ran seen.sent_before seen.sent sent (output plan (list_of lists)))
-      → (IsWhole ran → SendsOutput plan seen.sent_before seen.sent sent)
+      → (seen.knows ≡ true → IsWhole ran → SendsOutput plan seen.sent_before seen.sent sent)
       → (IsWhole ran → GaveTaken plan seen.gives seen.given seen.old seen.now)
       → AreReports plan seen.gives seen.given seen.faults seen.old seen.now reports
       → (IsWhole ran → AreWholeReports plan seen.gives seen.given seen.old reports)
       → RanHasCause seen.faults plan.antennas seen.old seen.now seen.sink_faults_before seen.sink_faults ran
       → RunsPlan telling plan seen (answer_of telling ran sent reports)
-  comes_by Packets Done reports sends some taken are whole cause = (refl, all_sent Done None tt sends (some tt) (taken tt) cause.0 cause.1)
-  comes_by Summary Done reports sends some taken are whole cause = (refl, all_sent Done None tt sends (some tt) (taken tt) cause.0 cause.1, summed reports sends are (whole tt))
-  comes_by Packets (SourceFault a) reports sends some taken are whole cause = (refl, all_sent (SourceFault a) (Some a) tt sends (some tt) (taken tt) cause.0 cause.1)
-  comes_by Summary (SourceFault a) reports sends some taken are whole cause = (refl, all_sent (SourceFault a) (Some a) tt sends (some tt) (taken tt) cause.0 cause.1, summed reports sends are (whole tt))
+  comes_by Packets Done reports sends some taken are whole cause = (refl, all_sent Done None tt sends (λ known. some known tt) (taken tt) cause.0 cause.1)
+  comes_by Summary Done reports sends some taken are whole cause = (refl, all_sent Done None tt sends (λ known. some known tt) (taken tt) cause.0 cause.1, summed reports sends are (whole tt))
+  comes_by Packets (SourceFault a) reports sends some taken are whole cause = (refl, all_sent (SourceFault a) (Some a) tt sends (λ known. some known tt) (taken tt) cause.0 cause.1)
+  comes_by Summary (SourceFault a) reports sends some taken are whole cause = (refl, all_sent (SourceFault a) (Some a) tt sends (λ known. some known tt) (taken tt) cause.0 cause.1, summed reports sends are (whole tt))
   comes_by telling SinkFault reports sends some taken are whole cause = record {
     sources = sources;
     output = λ lists is. let front = sends lists is in record { front = front.front; rest = front.rest; whole = front.whole; appends = front.appended };

@@ -1,5 +1,5 @@
 -- What words and the text of settings say.
-use Rattle.std.proofs.Common.{◌≡◌, ◌<◌, ◌≤◌, ◌+◌, ℕ, Bool, true, false, List, [], ◌∷◌, drop, length, Option, Some, None, refl, sym, ap, ◌∙◌, subst, cond, arith, inl, inr}
+use Rattle.std.proofs.Common.{◌≡◌, ◌+◌, ℕ, Bool, true, false, List, [], ◌∷◌, drop, length, Option, Some, None, refl, sym, ap, ◌∙◌, subst, cond, inl, inr}
 use Rattle.std.specs.Prelude.{Result, Ok, Err, ◌⊎◌, option_map, option_and_then, is_some, bytes_eq, codes, filter, nat_le, not, ◌||◌, ◌==◌, ◌^◌}
 use Rattle.std.specs.List.{list_all, list_any}
 use Rattle.std.proofs.lemmas.Slice.Eq.{bytes_eq-Decides}
@@ -9,55 +9,55 @@ use Rattle.corr_words.specs.declared.command.Command.{Command}
 use Rattle.corr_words.specs.declared.command.Command.TheVariants.{Plain, Correlate, Trial, Simulate, Relay, Inspect, Decode}
 use Rattle.corr_words.specs.declared.command.WordRefusal.{WordRefusal}
 use Rattle.corr_words.specs.declared.command.WordRefusal.TheVariants as word
-use Rattle.corr_words.specs.Words.{is_flag, is_operand, number, takes_flag, word_at}
+use Rattle.corr_words.specs.Words.{is_flag, is_operand, number, word_at}
 use Rattle.corr_words.specs.Forms.{command_form, correlate_form, decode_form, form, inspect_form, numbers_of, number_to, numbers_form, plain_form, plain_words, relay_form, rest_form, simulate_form, sound_form, trial_form}
 use Rattle.corr_settings.specs.declared.settings.Settings.{Settings}
 use Rattle.corr_settings.specs.declared.refusal.SetRefusal.{SetRefusal}
 use Rattle.corr_settings.specs.Read.{settings}
 use Rattle.corr_model.specs.declared.plan.Plan.{Plan}
 use Rattle.corr_settings.specs.Plain.{plain_settings}
-use Rattle.corr_cli.specs.Said.{HasRun, AreRefused, form_of, if_built, is_built, names_built, needs_text, numbers, numbers_of_plain, of_plain, placed, said, said_by}
+use Rattle.corr_cli.specs.Said.{HasRun, form_of, if_over_sources, is_over_sources, names_over_sources, numbers, numbers_of_plain, of_plain, placed, said, said_by}
 use Rattle.corr_cli.specs.Says.{HasSaid, IsPlainRefused, IsSaidBy, MayGoOn}
 
--- what is chosen is not built where neither is
-neither : (b : Bool) (x y : Option Command) → option_and_then if_built x ≡ None → option_and_then if_built y ≡ None → option_and_then if_built (cond b x y) ≡ None
+-- what is chosen is not over the sources where neither is
+neither : (b : Bool) (x y : Option Command) → option_and_then if_over_sources x ≡ None → option_and_then if_over_sources y ≡ None → option_and_then if_over_sources (cond b x y) ≡ None
 neither true x y h k = h
 neither false x y h k = k
 
-mapped : {A : Type 0} (g : A → Command) → ((a : A) → if_built (g a) ≡ None) → (o : Option A) → option_and_then if_built (option_map g o) ≡ None
+mapped : {A : Type 0} (g : A → Command) → ((a : A) → if_over_sources (g a) ≡ None) → (o : Option A) → option_and_then if_over_sources (option_map g o) ≡ None
 mapped g h None = refl
 mapped g h (Some a) = h a
 
-chained : {A B : Type 0} (g : A → B → Command) → ((a : A) (b : B) → if_built (g a b) ≡ None) → (o : Option A) (p : Option B)
-    → option_and_then if_built (option_and_then (λ a. option_map (g a) p) o) ≡ None
+chained : {A B : Type 0} (g : A → B → Command) → ((a : A) (b : B) → if_over_sources (g a b) ≡ None) → (o : Option A) (p : Option B)
+    → option_and_then if_over_sources (option_and_then (λ a. option_map (g a) p) o) ≡ None
 chained g h None p = refl
 chained g h (Some a) p = mapped (g a) (h a) p
 
-tries : (serial : Bool) (operands : List (List ℕ)) → option_and_then if_built (trial_form serial operands) ≡ None
+tries : (serial : Bool) (operands : List (List ℕ)) → option_and_then if_over_sources (trial_form serial operands) ≡ None
 tries serial [] = refl
 tries serial (config ∷ []) = refl
 tries serial (config ∷ seed ∷ []) = mapped _ (λ n. refl) (number seed)
 tries serial (config ∷ seed ∷ x ∷ xs) = refl
 
-sees : (operands : List (List ℕ)) → option_and_then if_built (inspect_form operands) ≡ None
+sees : (operands : List (List ℕ)) → option_and_then if_over_sources (inspect_form operands) ≡ None
 sees [] = refl
 sees (from ∷ []) = refl
 sees (from ∷ x ∷ xs) = refl
 
-decodes : (operands : List (List ℕ)) → option_and_then if_built (decode_form operands) ≡ None
+decodes : (operands : List (List ℕ)) → option_and_then if_over_sources (decode_form operands) ≡ None
 decodes [] = refl
 decodes (from ∷ []) = refl
 decodes (from ∷ limit ∷ []) = mapped _ (λ n. refl) (number_to (2 ^ 30) limit)
 decodes (from ∷ limit ∷ x ∷ xs) = refl
 
-relays : (operands : List (List ℕ)) → option_and_then if_built (relay_form operands) ≡ None
+relays : (operands : List (List ℕ)) → option_and_then if_over_sources (relay_form operands) ≡ None
 relays [] = refl
 relays (from ∷ []) = refl
 relays (from ∷ to ∷ []) = refl
 relays (from ∷ to ∷ limit ∷ []) = mapped _ (λ n. refl) (number_to (2 ^ 40) limit)
 relays (from ∷ to ∷ limit ∷ x ∷ xs) = refl
 
-simulates : (operands : List (List ℕ)) → option_and_then if_built (simulate_form operands) ≡ None
+simulates : (operands : List (List ℕ)) → option_and_then if_over_sources (simulate_form operands) ≡ None
 simulates [] = refl
 simulates (config ∷ []) = refl
 simulates (config ∷ seed ∷ []) = refl
@@ -66,7 +66,7 @@ simulates (config ∷ seed ∷ antenna ∷ out ∷ []) = chained _ (λ n a. refl
 simulates (config ∷ seed ∷ antenna ∷ out ∷ x ∷ xs) = refl
 
 others_in : (command : List ℕ) (serial : Bool) (operands : List (List ℕ)) → bytes_eq command (codes "plain") ≡ false → bytes_eq command (codes "correlate") ≡ false
-    → option_and_then if_built (command_form command serial operands) ≡ None
+    → option_and_then if_over_sources (command_form command serial operands) ≡ None
 others_in command serial operands other another =
     rw (other, another)
     (neither (bytes_eq command (codes "trial")) _ _ (tries serial operands)
@@ -76,13 +76,13 @@ others_in command serial operands other another =
     (neither (bytes_eq command (codes "decode")) _ _ (decodes operands) refl)))))
 
 others_sound : (command : List ℕ) (serial : Bool) (operands : List (List ℕ)) → bytes_eq command (codes "plain") ≡ false → bytes_eq command (codes "correlate") ≡ false
-    → option_and_then if_built (sound_form command serial operands) ≡ None
+    → option_and_then if_over_sources (sound_form command serial operands) ≡ None
 others_sound command serial operands other another = neither (list_all is_operand operands) (command_form command serial operands) None (others_in command serial operands other another) refl
 
--- a command that is not built has no form
-pub unbuilt : (command : List ℕ) (rest : List (List ℕ)) → bytes_eq command (codes "plain") ≡ false → bytes_eq command (codes "correlate") ≡ false
-    → option_and_then if_built (rest_form command rest) ≡ None
-unbuilt command rest other another =
+-- another command has no form of one over the sources
+pub other_rest : (command : List ℕ) (rest : List (List ℕ)) → bytes_eq command (codes "plain") ≡ false → bytes_eq command (codes "correlate") ≡ false
+    → option_and_then if_over_sources (rest_form command rest) ≡ None
+other_rest command rest other another =
     neither _ (sound_form command (list_any is_flag rest) (filter (λ word. not (is_flag word)) rest)) (sound_form command false rest)
     (others_sound command (list_any is_flag rest) (filter (λ word. not (is_flag word)) rest) other another)
     (others_sound command false rest other another)
@@ -129,7 +129,7 @@ some_form words text r e none =
 pub no_numbers : (words : List (List ℕ)) → option_and_then numbers_of (form words) ≡ None → (p : PlainWords) (refusal : SetRefusal) → form_of words ≡ Some (Plain p) → of_plain p ≡ Err refusal → ⊥
 no_numbers words none p refusal is refused = by (form words) none is
   where
-    by : (o : Option Command) → option_and_then numbers_of o ≡ None → option_and_then if_built o ≡ Some (Plain p) → ⊥
+    by : (o : Option Command) → option_and_then numbers_of o ≡ None → option_and_then if_over_sources o ≡ Some (Plain p) → ⊥
     by None h e = absurd cc
     by (Some (Plain q)) h e = absurd cc
     by (Some (Correlate config serial)) h e = absurd cc
@@ -150,7 +150,7 @@ plain_of words n h = by (form words) refl h
   where
     by : (o : Option Command) → form words ≡ o → option_and_then numbers_of o ≡ Some n → IsPlain words n
     by None e h = absurd cc
-    by (Some (Plain q)) e h = record { plain = q; is_form = ap (option_and_then if_built) e; same = let both : Some (numbers_of_plain q) ≡ Some n = h in cc }
+    by (Some (Plain q)) e h = record { plain = q; is_form = ap (option_and_then if_over_sources) e; same = let both : Some (numbers_of_plain q) ≡ Some n = h in cc }
     by (Some (Correlate config serial)) e h = absurd cc
     by (Some (Trial config seed serial)) e h = absurd cc
     by (Some (Simulate config seed antenna out)) e h = absurd cc
@@ -184,49 +184,49 @@ or_false : (a b : Bool) → (a || b) ≡ false → (a ≡ false) × (b ≡ false
 or_false false b h = (refl, h)
 or_false true b h = absurd cc
 
--- words whose command is not built have no form
-pub unbuilt_words : (words : List (List ℕ)) → names_built words ≡ false → form_of words ≡ None
-unbuilt_words words h =
+-- words of another command have no form of one over the sources
+pub other_words : (words : List (List ℕ)) → names_over_sources words ≡ false → form_of words ≡ None
+other_words words h =
     let both = or_false (bytes_eq (word_at words 1) (codes "plain")) (bytes_eq (word_at words 1) (codes "correlate")) h in
-    neither (nat_le 2 (length words)) (rest_form (word_at words 1) (drop 2 words)) None (unbuilt (word_at words 1) (drop 2 words) both.0 both.1) refl
+    neither (nat_le 2 (length words)) (rest_form (word_at words 1) (drop 2 words)) None (other_rest (word_at words 1) (drop 2 words) both.0 both.1) refl
 
--- each command that is said is built
-AllBuilt : Option Command → Type 0
-AllBuilt o = (c : Command) → o ≡ Some c → is_built c ≡ true
+-- each command that is said is over the sources
+unfoldable pub AllOverSources : Option Command → Type 0
+AllOverSources o = (c : Command) → o ≡ Some c → is_over_sources c ≡ true
 
-none_built : AllBuilt None
-unfolding AllBuilt
-none_built = λ c e. absurd cc
+pub none_over : AllOverSources None
+unfolding AllOverSources
+none_over = λ c e. absurd cc
 
-one_built : (c : Command) → is_built c ≡ true → AllBuilt (Some c)
-unfolding AllBuilt
-one_built c h = λ d e. let same : c ≡ d = cc in ap is_built (sym same) ∙ h
+one_over : (c : Command) → is_over_sources c ≡ true → AllOverSources (Some c)
+unfolding AllOverSources
+one_over c h = λ d e. let same : c ≡ d = cc in ap is_over_sources (sym same) ∙ h
 
-either_built : (b : Bool) (x y : Option Command) → AllBuilt x → AllBuilt y → AllBuilt (cond b x y)
-either_built true x y h k = h
-either_built false x y h k = k
+pub either_over : (b : Bool) (x y : Option Command) → AllOverSources x → AllOverSources y → AllOverSources (cond b x y)
+either_over true x y h k = h
+either_over false x y h k = k
 
-plain_built_by : (operands : List (List ℕ)) (o : Option Numbers) → AllBuilt (option_and_then (λ n. cond (length operands == n.antennas + 6) (Some (Plain (plain_words operands n))) None) o)
-plain_built_by operands None = none_built
-plain_built_by operands (Some n) = either_built (length operands == n.antennas + 6) (Some (Plain (plain_words operands n))) None (one_built (Plain (plain_words operands n)) refl) none_built
+plain_built_by : (operands : List (List ℕ)) (o : Option Numbers) → AllOverSources (option_and_then (λ n. cond (length operands == n.antennas + 6) (Some (Plain (plain_words operands n))) None) o)
+plain_built_by operands None = none_over
+plain_built_by operands (Some n) = either_over (length operands == n.antennas + 6) (Some (Plain (plain_words operands n))) None (one_over (Plain (plain_words operands n)) refl) none_over
 
-plain_built : (operands : List (List ℕ)) → AllBuilt (plain_form operands)
-plain_built operands = plain_built_by operands (numbers_form operands)
+pub plain_over : (operands : List (List ℕ)) → AllOverSources (plain_form operands)
+plain_over operands = plain_built_by operands (numbers_form operands)
 
-correlate_built : (serial : Bool) (operands : List (List ℕ)) → AllBuilt (correlate_form serial operands)
-correlate_built serial [] = none_built
-correlate_built serial (config ∷ []) = one_built (Correlate config serial) refl
-correlate_built serial (config ∷ x ∷ xs) = none_built
+pub correlate_over : (serial : Bool) (operands : List (List ℕ)) → AllOverSources (correlate_form serial operands)
+correlate_over serial [] = none_over
+correlate_over serial (config ∷ []) = one_over (Correlate config serial) refl
+correlate_over serial (config ∷ x ∷ xs) = none_over
 
-plain_rest : (rest : List (List ℕ)) → AllBuilt (rest_form (codes "plain") rest)
-plain_rest rest = either_built (list_all is_operand rest) (plain_form rest) None (plain_built rest) none_built
+plain_rest : (rest : List (List ℕ)) → AllOverSources (rest_form (codes "plain") rest)
+plain_rest rest = either_over (list_all is_operand rest) (plain_form rest) None (plain_over rest) none_over
 
-correlate_sound : (serial : Bool) (operands : List (List ℕ)) → AllBuilt (sound_form (codes "correlate") serial operands)
-correlate_sound serial operands = either_built (list_all is_operand operands) (correlate_form serial operands) None (correlate_built serial operands) none_built
+correlate_sound : (serial : Bool) (operands : List (List ℕ)) → AllOverSources (sound_form (codes "correlate") serial operands)
+correlate_sound serial operands = either_over (list_all is_operand operands) (correlate_form serial operands) None (correlate_over serial operands) none_over
 
-correlate_rest : (rest : List (List ℕ)) → AllBuilt (rest_form (codes "correlate") rest)
+correlate_rest : (rest : List (List ℕ)) → AllOverSources (rest_form (codes "correlate") rest)
 correlate_rest rest =
-    either_built (nat_le (length (filter is_flag rest)) 1) (sound_form (codes "correlate") (list_any is_flag rest) (filter (λ word. not (is_flag word)) rest)) (sound_form (codes "correlate") false rest)
+    either_over (nat_le (length (filter is_flag rest)) 1) (sound_form (codes "correlate") (list_any is_flag rest) (filter (λ word. not (is_flag word)) rest)) (sound_form (codes "correlate") false rest)
     (correlate_sound (list_any is_flag rest) (filter (λ word. not (is_flag word)) rest)) (correlate_sound false rest)
 
 or_true : (a b : Bool) → (a || b) ≡ true → (a ≡ true) ⊎ (b ≡ true)
@@ -236,27 +236,27 @@ or_true false b h = inr h
 same_bytes : (xs ys : List ℕ) → bytes_eq xs ys ≡ true → xs ≡ ys
 same_bytes xs ys h = (bytes_eq-Decides xs ys).0 h
 
-rest_built : (command : List ℕ) (rest : List (List ℕ)) → (bytes_eq command (codes "plain") || bytes_eq command (codes "correlate")) ≡ true → AllBuilt (rest_form command rest)
-rest_built command rest h = elim (or_true (bytes_eq command (codes "plain")) (bytes_eq command (codes "correlate")) h) [
-  | inl plain ↦ subst (λ k. AllBuilt (rest_form k rest)) (sym (same_bytes command (codes "plain") plain)) (plain_rest rest)
-  | inr correlate ↦ subst (λ k. AllBuilt (rest_form k rest)) (sym (same_bytes command (codes "correlate") correlate)) (correlate_rest rest)
+rest_over : (command : List ℕ) (rest : List (List ℕ)) → (bytes_eq command (codes "plain") || bytes_eq command (codes "correlate")) ≡ true → AllOverSources (rest_form command rest)
+rest_over command rest h = elim (or_true (bytes_eq command (codes "plain")) (bytes_eq command (codes "correlate")) h) [
+  | inl plain ↦ subst (λ k. AllOverSources (rest_form k rest)) (sym (same_bytes command (codes "plain") plain)) (plain_rest rest)
+  | inr correlate ↦ subst (λ k. AllOverSources (rest_form k rest)) (sym (same_bytes command (codes "correlate") correlate)) (correlate_rest rest)
 ]
 
-words_built : (words : List (List ℕ)) → names_built words ≡ true → AllBuilt (form words)
-words_built words h = either_built (nat_le 2 (length words)) (rest_form (word_at words 1) (drop 2 words)) None (rest_built (word_at words 1) (drop 2 words) h) none_built
+words_over : (words : List (List ℕ)) → names_over_sources words ≡ true → AllOverSources (form words)
+words_over words h = either_over (nat_le 2 (length words)) (rest_form (word_at words 1) (drop 2 words)) None (rest_over (word_at words 1) (drop 2 words) h) none_over
 
 some_of_form : (o : Option Command) → is_some o ≡ true → (c : Command) × (o ≡ Some c)
 some_of_form None h = absurd cc
 some_of_form (Some c) h = (c, refl)
 
 -- words that are read may go on, where their numbers are not refused
-pub may_go : (words : List (List ℕ)) → names_built words ≡ true → is_some (form words) ≡ true
+pub may_go : (words : List (List ℕ)) → names_over_sources words ≡ true → is_some (form words) ≡ true
     → ((p : PlainWords) (refusal : SetRefusal) → form_of words ≡ Some (Plain p) → of_plain p ≡ Err refusal → ⊥) → MayGoOn words
-unfolding AllBuilt
+unfolding AllOverSources
 may_go words named some accepted =
     let (c, is) = some_of_form (form words) some in
-    let built : is_built c ≡ true = words_built words named c is in
-    let formed : form_of words ≡ Some c = ap (option_and_then if_built) is ∙ ap (λ b. cond b (Some c) None) built in
+    let built : is_over_sources c ≡ true = words_over words named c is in
+    let formed : form_of words ≡ Some c = ap (option_and_then if_over_sources) is ∙ ap (λ b. cond b (Some c) None) built in
     record { command = c; is_form = formed; accepted = λ p refusal same. accepted p refusal (formed ∙ ap Some same) }
 
 -- want of memory comes only where there is a form

@@ -1,30 +1,25 @@
 -- The words of a tool, and what a run of it changes.
-use Rattle.std.proofs.Common.{◌≡◌, ◌<◌, ◌≤◌, ◌+◌, ◌⊎◌, ◌↔◌, ℕ, Bool, true, false, List, [], ◌∷◌, drop, length, Option, Some, None, refl, sym, ap, ◌∙◌, subst, cond, arith, inl, inr}
-use Rattle.std.specs.Prelude.{Result, Ok, Err, IsNone, is_some, ◌||◌, ◌==◌, ◌^◌, option_map, bytes_eq, codes, filter, nat_le, not}
-use Rattle.std.specs.List.{list_all, list_any}
+use Rattle.std.proofs.Common.{◌≡◌, ◌⊎◌, ℕ, Bool, true, false, List, [], ◌∷◌, drop, length, Option, Some, None, refl, sym, ◌∙◌, subst, cond, arith, inl, inr}
+use Rattle.std.specs.Prelude.{Result, Ok, Err, is_some, ◌||◌, ◌==◌, ◌^◌, option_map, bytes_eq, codes, nat_le}
+use Rattle.std.specs.List.{list_all}
 use Rattle.std.proofs.lemmas.Slice.Eq.{bytes_eq-Decides}
 use Rattle.std.proofs.lemmas.Bool.{eqb-true, eq-eqb}
-use Rattle.corr_site.specs.declared.place.Place.{Place}
-use Rattle.corr_site.specs.Places.{place_of}
 use Rattle.corr_site.specs.Outside.{HasCause, Rises}
 use Rattle.corr_words.specs.declared.command.Command.{Command}
 use Rattle.corr_words.specs.declared.command.Command.TheVariants.{Plain, Correlate, Trial, Simulate, Relay, Inspect, Decode}
-use Rattle.corr_words.specs.Words.{is_flag, is_operand, number, word_at}
+use Rattle.corr_words.specs.Words.{is_operand, word_at}
 use Rattle.corr_words.specs.Forms.{decode_form, form, inspect_form, number_to, relay_form, rest_form}
 use Rattle.corr_tools.specs.declared.relaying.Relayed.TheVariants as relayed
 use Rattle.corr_tools.specs.declared.decoding.Ended.{Ended}
 use Rattle.corr_tools.specs.declared.decoding.Ended.TheVariants as ended
-use Rattle.corr_tools.specs.declared.inspecting.Inspected.{Inspected}
-use Rattle.corr_tools.specs.declared.decoding.Decoded.{Decoded}
 use Rattle.corr_tools.specs.Decoding.{DecodeCause}
 use Rattle.corr_cli.specs.declared.tools.RelayEnd.{RelayEnd}
 use Rattle.corr_cli.specs.declared.tools.RelayEnd.TheVariants.{SourceUnbegun, SinkUnbegun, Over}
-use Rattle.corr_cli.specs.Said.{form_of, names_built}
+use Rattle.corr_cli.specs.Said.{form_of}
 use Rattle.corr_cli.specs.declared.answer.Answer.{Answer}
 use Rattle.corr_cli.specs.Texts.{Tells, code_of, text_of, unprinted}
-use Rattle.corr_cli.specs.Tools.{CommandRan, DecodeComes, DecodeWent, InspectComes, InspectWent, IsMisused, IsOfTool, IsOut, IsUnused, LeavesSink, PrintSeen, ReadFailed, RelayRan, RelayComes, SinkSeen, SourceSeen, TellsText, ToolRan, WordsAreOut, decode_code, inspect_code, names_tool, read_code, relay_code}
-use Rattle.corr_cli.proofs.CauseLemmas.{clash_at}
-use Rattle.corr_cli.proofs.SaidLemmas.{unbuilt_words}
+use Rattle.corr_cli.specs.Tools.{CommandRan, DecodeComes, InspectComes, IsMisused, IsOfTool, IsUnused, PrintSeen, RelayComes, SinkSeen, SourceSeen, TellsText, ToolRan, WordsAreOut, decode_code, inspect_code, names_tool, read_code, relay_code}
+use Rattle.corr_cli.proofs.SaidLemmas.{other_words}
 
 -- where there is a command, it is one of a tool
 abbrev pub AreTools : Option Command → Type 0
@@ -57,11 +52,11 @@ decode_tool (from ∷ []) = tt
 decode_tool (from ∷ limit ∷ []) = mapped_tool _ (λ n. tt) (number_to (2 ^ 30) limit)
 decode_tool (from ∷ limit ∷ x ∷ xs) = tt
 
-or_true : (a b : Bool) → (a || b) ≡ true → (a ≡ true) ⊎ (b ≡ true)
+pub or_true : (a b : Bool) → (a || b) ≡ true → (a ≡ true) ⊎ (b ≡ true)
 or_true true b h = inl refl
 or_true false b h = inr h
 
-same_bytes : (xs ys : List ℕ) → bytes_eq xs ys ≡ true → xs ≡ ys
+pub same_bytes : (xs ys : List ℕ) → bytes_eq xs ys ≡ true → xs ≡ ys
 same_bytes xs ys h = (bytes_eq-Decides xs ys).0 h
 
 rest_tool : (command : List ℕ) (rest : List (List ℕ)) → (bytes_eq command (codes "relay") || (bytes_eq command (codes "inspect") || bytes_eq command (codes "decode"))) ≡ true → AreTools (rest_form command rest)
@@ -80,14 +75,14 @@ words_tool words h = either_tool (nat_le 2 (length words)) (rest_form (word_at w
 pub is_of_tool : (words : List (List ℕ)) (c : Command) → names_tool words ≡ true → form words ≡ Some c → IsOfTool c
 is_of_tool words c h e = subst AreTools e (words_tool words h)
 
-named_so : (word : List ℕ) (name : List ℕ) → bytes_eq word name ≡ true → (bytes_eq name (codes "plain") || bytes_eq name (codes "correlate")) ≡ false → (bytes_eq word (codes "plain") || bytes_eq word (codes "correlate")) ≡ false
+pub named_so : (word : List ℕ) (name : List ℕ) → bytes_eq word name ≡ true → (bytes_eq name (codes "plain") || bytes_eq name (codes "correlate")) ≡ false → (bytes_eq word (codes "plain") || bytes_eq word (codes "correlate")) ≡ false
 named_so word name is other = subst (λ k. (bytes_eq k (codes "plain") || bytes_eq k (codes "correlate")) ≡ false) (sym (same_bytes word name is)) other
 
 -- the words of a tool ask for nothing that correlates
 pub tool_is_no_run : (words : List (List ℕ)) → names_tool words ≡ true → form_of words ≡ None
 tool_is_no_run words h =
     let word = word_at words 1 in
-    unbuilt_words words (elim (or_true (bytes_eq word (codes "relay")) (bytes_eq word (codes "inspect") || bytes_eq word (codes "decode")) h) [
+    other_words words (elim (or_true (bytes_eq word (codes "relay")) (bytes_eq word (codes "inspect") || bytes_eq word (codes "decode")) h) [
       | inl is ↦ named_so word (codes "relay") is refl
       | inr others ↦ elim (or_true (bytes_eq word (codes "inspect")) (bytes_eq word (codes "decode")) others) [
         | inl is ↦ named_so word (codes "inspect") is refl
@@ -131,7 +126,7 @@ cut_by : (b : Bool) (own code : ℕ) → (own == 0) ≡ b → code ≡ cond b 6 
 cut_by true own code test e = inl (eqb-true own 0 test, e)
 cut_by false own code test e = inr (sym e, λ z. absurd (let clash : true ≡ false = sym (eq-eqb own 0 z) ∙ test in cc))
 
-cut_code : (own code : ℕ) → code ≡ unprinted own → ((own ≡ 0) × (code ≡ 6)) ⊎ ((own ≡ code) × (own ≡ 0 → ⊥))
+pub cut_code : (own code : ℕ) → code ≡ unprinted own → ((own ≡ 0) × (code ≡ 6)) ⊎ ((own ≡ code) × (own ≡ 0 → ⊥))
 cut_code own code e = cut_by (own == 0) own code refl e
 
 effects : {S : Type 0} (old now : S) (source : SourceSeen) (sink : SinkSeen) (print : PrintSeen) (own code : ℕ) → OwnEffects old now source sink own → IsCodeOf print own code → ToolEffects old now source sink print code

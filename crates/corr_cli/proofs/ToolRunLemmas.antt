@@ -1,18 +1,16 @@
 -- A run of a tool, seen from the top call: nothing is said of the runs that correlate, and one source changes.
-use Rattle.std.proofs.Common.{◌≡◌, ◌<◌, ◌≤◌, ◌+◌, ◌⊎◌, ◌↔◌, ℕ, Bool, true, false, List, length, get_or, set, Option, Some, None, refl, sym, ap, ◌∙◌, subst, cond, arith, inl, inr}
-use Rattle.std.specs.Prelude.{Result, Ok, Err, IsNone, is_some, option_and_then}
+use Rattle.std.proofs.Common.{◌≡◌, ◌<◌, ◌↔◌, ℕ, Bool, true, false, List, length, get_or, set, Option, Some, None, refl, sym, ap, ◌∙◌, arith, inl, inr}
+use Rattle.std.specs.Prelude.{Result, Ok, Err, IsNone, option_and_then}
 use Rattle.std.proofs.lemmas.List.{get_or_default, get_or-set_same, set-get_or}
 use Rattle.corr_site.specs.Outside.{Rises}
 use Rattle.corr_words.specs.declared.command.Command.{Command}
 use Rattle.corr_words.specs.declared.command.Command.TheVariants.{Correlate}
-use Rattle.corr_words.specs.Forms.{form}
 use Rattle.corr_settings.specs.declared.settings.Settings.{Settings}
 use Rattle.corr_settings.specs.declared.refusal.SetRefusal.{SetRefusal}
 use Rattle.corr_serial.specs.Sources.{AreSameFrom, KeepsEach}
 use Rattle.corr_cli.specs.Said.{AreRefused, HasRun, form_of, needs_text, said, said_by}
-use Rattle.corr_cli.specs.Runs.{IsUntouched}
-use Rattle.corr_cli.specs.Tools.{IsUnused, PrintSeen, SinkSeen, SourceSeen, ToolRan, command_of, names_tool}
-use Rattle.corr_cli.proofs.BeginLemmas.{keeps_set, same_from_set, read_at}
+use Rattle.corr_cli.specs.Tools.{IsUnused, PrintSeen, SinkSeen, SourceSeen, ToolRan, names_tool}
+use Rattle.corr_cli.proofs.BeginLemmas.{keeps_set, same_from_set}
 use Rattle.corr_cli.proofs.CauseLemmas.{no_text}
 use Rattle.corr_cli.proofs.ToolLemmas.{ToolEffects, tool_effects, tool_is_no_run}
 
@@ -38,9 +36,6 @@ module _ (words : List (List ℕ)) (tool : names_tool words ≡ true) where
 
   pub no_correlate : (config : List ℕ) (serial : Bool) {P : Type 0} → form_of words ≡ Some (Correlate config serial) → P
   no_correlate config serial is = let clash : None ≡ Some (Correlate config serial) = sym no_form ∙ is in absurd cc
-
-  pub of_form : command_of words ≡ form words
-  of_form = ap (λ b. cond b (form words) (form_of words)) tool
 
 -- what a tool's code says, by whether its words have a form
 pub record ToolSays {S : Type 0} (o : Option Command) (old now : S) (source : SourceSeen) (sink : SinkSeen) (print : PrintSeen) (code : ℕ) : Type 0 where
@@ -97,7 +92,3 @@ module _ {S : Type 0} (xs : List S) (x y : S) (some : 0 < length xs) (is : x ≡
 
   pub untouched : y ≡ x → set xs 0 y ≡ xs
   untouched same = ap (set xs 0) (same ∙ is) ∙ set-get_or xs 0 x
-
--- the usage of words that name no tool
-pub other_usage : (words : List (List ℕ)) (code : ℕ) → names_tool words ≡ false → (code ≡ 1) ↔ IsNone (form_of words) → (code ≡ 1) ↔ IsNone (command_of words)
-other_usage words code other h = subst (λ k. (code ≡ 1) ↔ IsNone k) (sym (ap (λ b. cond b (form words) (form_of words)) other)) h

@@ -1,6 +1,6 @@
 -- How the first of a run's sources are begun, one for each antenna.
 -- This project's own.
-use Rattle.std.specs.Prelude.{◌≡◌, ◌≢◌, ℕ, ◌+◌, ◌*◌, ◌<◌, ◌≤◌, Bool, true, false, List, [], length, slice_index_or, Option, Some, None, Result, Ok, Err}
+use Rattle.std.specs.Prelude.{◌≡◌, ◌≢◌, ℕ, ◌+◌, ◌<◌, Bool, false, List, length, slice_index_or, Option, Some, None, Result, Ok, Err}
 use Rattle.corr_site.specs.declared.place.Place.{Place}
 use Rattle.corr_site.specs.Outside.{Rises}
 use Rattle.corr_serial.specs.Sources.{AreBegun, KeepsEach}

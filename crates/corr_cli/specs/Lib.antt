@@ -1,7 +1,9 @@
 pub mod Beginning
+pub mod Observed
 pub mod Placing
 pub mod Runs
 pub mod Said
 pub mod Says
+pub mod Simulating
 pub mod Texts
 pub mod Tools

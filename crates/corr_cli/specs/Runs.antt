@@ -1,11 +1,10 @@
 -- What a run of the program comes to, by its words, the text of its settings, and what its sources give.
 -- This project's own. What is sent is the output of the definitions.
-use Rattle.std.specs.Prelude.{◌≡◌, ◌⊎◌, ℕ, ◌+◌, ◌<◌, Bool, true, false, List, ◌++◌, length, Option, Some, None, Result, Ok, Err}
+use Rattle.std.specs.Prelude.{◌≡◌, ◌⊎◌, ℕ, ◌+◌, Bool, true, false, List, ◌++◌, length, Option, Some, None, Ok, Err}
 use Rattle.corr_model.specs.declared.plan.Plan.{Plan}
 use Rattle.corr_model.specs.Visibilities.{Lists}
 use Rattle.corr_model.specs.Outputs.{output}
-use Rattle.corr_site.specs.Outside.{Appended, Rises, Rose}
-use Rattle.corr_words.specs.declared.command.Command.{Command}
+use Rattle.corr_site.specs.Outside.{Appended, Rises}
 use Rattle.corr_settings.specs.declared.settings.Settings.{Settings as Run}
 use Rattle.corr_settings.specs.declared.refusal.SetRefusal.{SetRefusal}
 use Rattle.stream_feed.specs.declared.report.StreamReport.{StreamReport}
@@ -13,15 +12,14 @@ use Rattle.vis_send.specs.declared.tally.Sent.{Sent as Tally}
 use Rattle.vis_send.specs.Marks.{sent_of}
 use Rattle.corr_serial.specs.declared.outcome.Ran.{Ran}
 use Rattle.corr_serial.specs.declared.outcome.Ran.TheVariants as rans
-use Rattle.corr_serial.specs.declared.outcome.Outcome.{Outcome}
 use Rattle.corr_serial.specs.Sources.{HasLeastRise, IsLeastRise, AreBegun, AreSameFrom}
 use Rattle.corr_serial.specs.Runs.{AreGiven, GaveTaken, AreReports, AreWholeReports, list_of}
 use Rattle.corr_cli.specs.declared.said.Telling.{Telling}
 use Rattle.corr_cli.specs.declared.said.Telling.TheVariants.{Packets, Summary}
 use Rattle.corr_cli.specs.declared.answer.Answer.{Answer}
-use Rattle.corr_cli.specs.declared.answer.Answer.TheVariants.{Usage, SettingsFault, Settings, NotBegun, Sent, Summed, SinkFault, NoMemory}
+use Rattle.corr_cli.specs.declared.answer.Answer.TheVariants.{Usage, SettingsFault, Settings, NotBegun, Sent, Summed, Simulated, SinkFault, NoMemory}
 use Rattle.corr_cli.specs.Said.{form_of, needs_text}
-use Rattle.corr_cli.specs.Says.{HasSaid, IsSaidBy, MayGoOn, telling_of}
+use Rattle.corr_cli.specs.Says.{HasSaid, MayGoOn, telling_of}
 use Rattle.corr_cli.specs.Texts.{Tells}
 use Rattle.corr_cli.specs.Beginning.{AloneRose, AreBegunBefore}
 
@@ -32,8 +30,9 @@ pub record AppendsPackets (before now : Option (List (List ℕ))) (packets : Lis
   pub whole : packets ≡ front ++ rest
   pub appends : Appended before front now
 
--- what a contract sees of the sources and of the sink, before and after a run
+-- what a contract sees of the sources and of the sink, before and after a run; and whether it is known what is sent
 pub record Seen (S : Type 0) : Type 0 where
+  pub knows : Bool
   pub gives : S → Option (List (List ℕ))
   pub given : S → ℕ
   pub begun : S → Bool
@@ -57,10 +56,11 @@ pub record AllBegun {S : Type 0} (plan : Plan) (seen : Seen S) : Type 0 where
   pub sink : seen.sink_begun ≡ true
 
 -- the whole output was sent, of whatever lists the sources give; the fault, if any, is that of the least source whose
--- count of faults rose, and the sink counted none; the packets are as many as the output has, of whatever lists
+-- count of faults rose, and the sink counted none; the packets, where they are known, are as many as the output has, of
+-- whatever lists
 pub record SentAll {S : Type 0} (plan : Plan) (seen : Seen S) (packets : ℕ) (fault : Option ℕ) : Type 0 where
   pub all_begun : AllBegun plan seen
-  pub count : (lists : Lists) → packets ≡ length (output plan lists)
+  pub count : seen.knows ≡ true → (lists : Lists) → packets ≡ length (output plan lists)
   pub output : (lists : List (List (List ℕ))) → AreGiven plan seen.gives seen.given seen.old lists → Appended seen.sent_before (output plan (list_of lists)) seen.sent
   pub taken : GaveTaken plan seen.gives seen.given seen.old seen.now
   pub least : HasLeastRise seen.faults plan.antennas seen.old seen.now fault
@@ -158,6 +158,7 @@ Comes words seen text (NotBegun antenna) = OfRun words seen text (NotBegun anten
 Comes words seen text (Sent packets fault) = OfRun words seen text (Sent packets fault)
 Comes words seen text (Summed sent reports fault) = OfRun words seen text (Summed sent reports fault)
 Comes words seen text SinkFault = OfRun words seen text SinkFault
+Comes words seen text (Simulated packets) = ⊥
 
 -- there is an answer to the words that the run came to, and it was told
 pub record RanAs {S : Type 0} (words : List (List ℕ)) (seen : Seen S) (text : TextSeen) (before now : Option (List ℕ)) (faults_before faults code : ℕ) : Type 0 where

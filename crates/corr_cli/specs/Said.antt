@@ -4,7 +4,7 @@ use Rattle.corr_model.specs.declared.plan.Plan.{Plan}
 use Rattle.corr_words.specs.declared.command.PlainWords.{PlainWords}
 use Rattle.corr_words.specs.declared.reading.Numbers.{Numbers}
 use Rattle.corr_words.specs.declared.command.Command.{Command}
-use Rattle.corr_words.specs.declared.command.Command.TheVariants.{Plain, Correlate, Trial, Simulate, Relay, Inspect, Decode}
+use Rattle.corr_words.specs.declared.command.Command.TheVariants.{Plain, Correlate}
 use Rattle.corr_words.specs.Words.{word_at}
 use Rattle.corr_words.specs.Forms.{form}
 use Rattle.corr_settings.specs.declared.plain.PlainNumbers.{PlainNumbers}
@@ -13,22 +13,22 @@ use Rattle.corr_settings.specs.declared.refusal.SetRefusal.{SetRefusal}
 use Rattle.corr_settings.specs.Plain.{plain_settings}
 use Rattle.corr_settings.specs.Read.{settings}
 
--- the command is built; a command line of another one counts as one without a form
-abbrev pub is_built : Command → Bool
-is_built (Plain p) = true
-is_built (Correlate config serial) = true
-is_built other = false
+-- the command correlates what the sources give
+abbrev pub is_over_sources : Command → Bool
+is_over_sources (Plain p) = true
+is_over_sources (Correlate config serial) = true
+is_over_sources other = false
 
-abbrev pub if_built : Command → Option Command
-if_built command = if is_built command then Some command else None
+abbrev pub if_over_sources : Command → Option Command
+if_over_sources command = if is_over_sources command then Some command else None
 
--- the command that the words say, where they have a form
+-- the command that the words say, where they have the form of such a one
 abbrev pub form_of : List (List ℕ) → Option Command
-form_of words = option_and_then if_built (form words)
+form_of words = option_and_then if_over_sources (form words)
 
--- the second word is the name of a command that is built
-abbrev pub names_built : List (List ℕ) → Bool
-names_built words = bytes_eq (word_at words 1) (codes "plain") || bytes_eq (word_at words 1) (codes "correlate")
+-- the second word is the name of such a command
+abbrev pub names_over_sources : List (List ℕ) → Bool
+names_over_sources words = bytes_eq (word_at words 1) (codes "plain") || bytes_eq (word_at words 1) (codes "correlate")
 
 -- the five numbers of `plain`
 abbrev pub numbers : Numbers → PlainNumbers

@@ -1,9 +1,9 @@
 -- What was read of a command line and of the text of its settings. This project's own.
-use Rattle.std.specs.Prelude.{◌≡◌, ℕ, Bool, true, false, List, Option, Some, None, Result, Ok, Err}
+use Rattle.std.specs.Prelude.{◌≡◌, ℕ, true, List, Option, Some, None, Result, Ok, Err}
 use Rattle.corr_site.specs.Outside.{Rises}
 use Rattle.corr_words.specs.declared.command.PlainWords.{PlainWords}
 use Rattle.corr_words.specs.declared.command.Command.{Command}
-use Rattle.corr_words.specs.declared.command.Command.TheVariants.{Plain, Correlate, Trial, Simulate, Relay, Inspect, Decode}
+use Rattle.corr_words.specs.declared.command.Command.TheVariants.{Plain, Correlate}
 use Rattle.corr_settings.specs.declared.settings.Settings.{Settings}
 use Rattle.corr_settings.specs.declared.refusal.SetRefusal.{SetRefusal}
 use Rattle.corr_settings.specs.Read.{settings}

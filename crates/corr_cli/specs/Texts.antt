@@ -7,7 +7,7 @@ use Rattle.corr_report.specs.Texts.{settings_text, status_text, usage_text}
 use Rattle.corr_report.specs.Summaries.{stream_text, summary_text}
 use Rattle.corr_report.specs.declared.status.StatusLine.TheVariants as status
 use Rattle.corr_cli.specs.declared.answer.Answer.{Answer}
-use Rattle.corr_cli.specs.declared.answer.Answer.TheVariants.{Usage, SettingsFault, Settings, NotBegun, Sent, Summed, SinkFault, NoMemory}
+use Rattle.corr_cli.specs.declared.answer.Answer.TheVariants.{Usage, SettingsFault, Settings, NotBegun, Sent, Summed, Simulated, SinkFault, NoMemory}
 
 -- the code of a run that sent all
 abbrev pub code_after : Option ℕ → ℕ
@@ -21,6 +21,7 @@ code_of (Settings refusal) = 2
 code_of (NotBegun antenna) = 3
 code_of (Sent packets fault) = code_after fault
 code_of (Summed sent reports fault) = code_after fault
+code_of (Simulated packets) = 0
 code_of SinkFault = 4
 code_of NoMemory = 5
 code_of SettingsFault = 8
@@ -47,6 +48,7 @@ text_of (Settings refusal) = settings_text refusal
 text_of (NotBegun antenna) = status_text (status.SourceFault antenna)
 text_of (Sent packets fault) = status_text (status.Sent packets) ++ later_text fault
 text_of (Summed sent reports fault) = summary_text sent ++ (streams_text 0 reports ++ later_text fault)
+text_of (Simulated packets) = status_text (status.Simulated packets)
 text_of SinkFault = status_text status.SinkFault
 text_of NoMemory = status_text status.NoMemory
 

@@ -1,12 +1,10 @@
 -- What a run of a tool comes to: `relay`, `inspect` and `decode`, over the first source. This project's own.
-use Rattle.std.specs.Prelude.{◌≡◌, ◌⊎◌, ◌||◌, ℕ, Bool, true, false, List, [], ◌++◌, Option, Some, None, Result, Ok, Err, bytes_eq, codes, if◌then◌else◌}
-use Rattle.corr_site.specs.declared.answers.Failed.{Failed}
+use Rattle.std.specs.Prelude.{◌≡◌, ◌⊎◌, ◌||◌, ℕ, Bool, true, false, List, ◌++◌, Option, Some, None, Result, Ok, Err, bytes_eq, codes}
 use Rattle.corr_site.specs.declared.place.Place.{Place}
 use Rattle.corr_site.specs.Outside.{Appended, AppendsFront, HasCause, Rises}
 use Rattle.corr_words.specs.declared.command.Command.{Command}
 use Rattle.corr_words.specs.declared.command.Command.TheVariants.{Relay, Inspect, Decode}
 use Rattle.corr_words.specs.Words.{word_at}
-use Rattle.corr_words.specs.Forms.{form}
 use Rattle.corr_report.specs.Texts.{status_text, usage_text}
 use Rattle.corr_report.specs.declared.status.StatusLine.TheVariants as status
 use Rattle.corr_tools.specs.declared.relaying.Relayed.{Relayed}
@@ -21,7 +19,6 @@ use Rattle.corr_tools.specs.Decoding.{DecodeCause, Decodes}
 use Rattle.corr_cli.specs.declared.tools.RelayEnd.{RelayEnd}
 use Rattle.corr_cli.specs.declared.tools.RelayEnd.TheVariants.{SourceUnbegun, SinkUnbegun, Over}
 use Rattle.corr_cli.specs.Placing.{IsAtOwn}
-use Rattle.corr_cli.specs.Said.{form_of}
 use Rattle.corr_cli.specs.Texts.{unprinted}
 
 -- the second word is the name of a tool
@@ -35,14 +32,6 @@ IsOfTool (Relay from to limit) = Unit {0}
 IsOfTool (Inspect from) = Unit {0}
 IsOfTool (Decode from limit) = Unit {0}
 IsOfTool other = ⊥
-
--- the command of a tool that the words say, where they have its form
-abbrev pub tool_of : List (List ℕ) → Option Command
-tool_of words = if names_tool words then form words else None
-
--- the command that the words say, where it is built and they have a form
-abbrev pub command_of : List (List ℕ) → Option Command
-command_of words = if names_tool words then form words else form_of words
 
 -- the text was written and the code is its own; or a front of it, the count of faults rose, and 6 stands in place of 0
 pub record IsTold (before now : Option (List ℕ)) (faults_before faults : ℕ) (text : List ℕ) (own code : ℕ) : Type 0 where

@@ -30,6 +30,8 @@ pub enum Answer {
     Sent(u64, Option<u32>),
     /// The same, with all that was counted of what was sent, and the report on each stream.
     Summed(Sent, Reports, Option<u32>),
+    /// So many packets of one simulated input were sent.
+    Simulated(u64),
     /// The sink failed.
     SinkFault,
     /// There was no memory.
@@ -43,6 +45,7 @@ impl Answer {
     {
         match self {
             Answer::Sent(_, fault) | Answer::Summed(_, _, fault) => code_after(*fault),
+            Answer::Simulated(_) => 0,
             Answer::Usage => 1,
             Answer::Settings(_) => 2,
             Answer::NotBegun(_) => 3,

@@ -3,11 +3,17 @@
 
 mod answer;
 mod begin;
+mod in_threads;
+mod outcome;
 mod printing;
 mod report;
-mod run;
+mod returning;
 mod said;
+mod simulated;
+mod threaded;
 mod tools;
 
 pub use answer::Status;
-pub use run::{no_memory, run_returning};
+pub use report::no_memory;
+pub use returning::run_returning;
+pub use threaded::run;

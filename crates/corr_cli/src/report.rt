@@ -29,6 +29,13 @@ pub fn tell<P: TextSink>(answer: &Answer, print: &mut P) -> Status
     }
 }
 
+/// Prints that there is no memory, as a program does that could not even make its sources.
+pub fn no_memory<P: TextSink>(print: &mut P) -> Status
+    ensures { Tells (P.written print.old) (P.written print.new) (P.faults print.old) (P.faults print.new) Answer.NoMemory result.code }
+{
+    tell(&Answer::NoMemory, print)
+}
+
 // Prints the text of an answer.
 fn print_answer<P: TextSink>(answer: &Answer, print: &mut P) -> Result<(), Failed>
     requires { IsPrintable answer.now }
@@ -44,6 +51,7 @@ fn print_answer<P: TextSink>(answer: &Answer, print: &mut P) -> Result<(), Faile
         Answer::Summed(sent, reports, fault) => {
             print_summary(sent, reports.as_slice(), *fault, print)
         }
+        Answer::Simulated(packets) => print_status(&StatusLine::Simulated(*packets), print),
         Answer::SinkFault => print_status(&StatusLine::SinkFault, print),
         Answer::NoMemory => print_status(&StatusLine::NoMemory, print),
     }

@@ -8,7 +8,7 @@ ghost use Rattle.corr_settings.specs.declared.refusal.SetRefusal.{SetRefusal};
 ghost use Rattle.corr_settings.specs.Named.{HasShortName};
 ghost use Rattle.corr_settings.specs.Read.{settings};
 ghost use Rattle.corr_cli.specs.Placing.{IsAtOwn};
-ghost use Rattle.corr_cli.specs.Said.{form_of, names_built, needs_text, numbers, of_plain};
+ghost use Rattle.corr_cli.specs.Said.{form_of, names_over_sources, needs_text, numbers, of_plain};
 ghost use Rattle.corr_cli.specs.Says.{IsSaidBy, Says, SaysCause, SaysText, RefusesNumbers, IsOfText, IsOfBytes, IsOfNumbers};
 ghost use Rattle.corr_cli.specs.Texts.{IsNotDone, IsPrintable};
 
@@ -52,17 +52,17 @@ pub fn said<D: TextSource>(alloc: Global, words: &[String], text: &mut D) -> Res
     ensures stops { IfErr result IsNotDone }
     ensures cause { SaysCause (D.faults text.old) (D.faults text.new) result }
 {
-    if is_built(words) {
+    if is_over_sources(words) {
         said_by(alloc, words, text)
     } else {
         Err(Answer::Usage)
     }
 }
 
-// The same of a command that is built.
+// The same of a command over the sources.
 fn said_by<D: TextSource>(alloc: Global, words: &[String], text: &mut D) -> Result<Asked, Answer>
     requires text { D.begun text.old ≡ false }
-    requires built { names_built (map string_bytes words.now) ≡ true }
+    requires named { names_over_sources (map string_bytes words.now) ≡ true }
     ensures says { Says (map string_bytes words.now) (D.left text.old) result }
     ensures printable { IfErr result IsPrintable }
     ensures fits { IfOk result (λ a. Fits a.settings.plan) }
@@ -86,9 +86,9 @@ fn said_by<D: TextSource>(alloc: Global, words: &[String], text: &mut D) -> Resu
     }
 }
 
-// Whether the second word is a command that is built.
-fn is_built(words: &[String]) -> bool
-    ensures { result ≡ names_built (map string_bytes words.now) }
+// Whether the second word is a command that correlates what the sources give.
+fn is_over_sources(words: &[String]) -> bool
+    ensures { result ≡ names_over_sources (map string_bytes words.now) }
 {
     if words.len() < 2 {
         return false;
@@ -154,7 +154,11 @@ fn said_plain(plain: PlainWords) -> Result<Asked, Answer>
 }
 
 // What the text of a file asks for.
-fn said_text<D: TextSource>(alloc: Global, config: &Text, text: &mut D) -> Result<Asked, Answer>
+pub(crate) fn said_text<D: TextSource>(
+    alloc: Global,
+    config: &Text,
+    text: &mut D,
+) -> Result<Asked, Answer>
     requires { D.begun text.old ≡ false }
     ensures says { (bytes : List ℕ) → D.left text.old ≡ Some bytes → SaysText (settings bytes) Telling.Summary result }
     ensures telling { IfOk result (λ a. a.telling ≡ Telling.Summary) }

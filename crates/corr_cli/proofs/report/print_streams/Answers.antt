@@ -1,4 +1,4 @@
-use Rattle.std.proofs.Common.{◌<◌, ◌≤◌, length, ap, get_or, arith}
+use Rattle.std.proofs.Common.{◌<◌, ◌≤◌, length, arith}
 use Rattle.corr_cli.specs.Texts.{later_text}
 use Rattle.corr_cli.proofs.PrintLemmas.{printed_all, printed_front, printed_more}
 use Rattle.corr_cli.proofs.report.print_streams.Goals as goal

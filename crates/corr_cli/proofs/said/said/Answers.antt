@@ -1,6 +1,6 @@
 use Rattle.std.proofs.Common.{map, string_bytes, sym, ◌∙◌}
-use Rattle.corr_cli.proofs.SaidLemmas.{unbuilt_words}
+use Rattle.corr_cli.proofs.SaidLemmas.{other_words}
 use Rattle.corr_cli.proofs.said.said.Goals as goal
 
-pub returns-else-is_built-clause-says : goal.returns-else-is_built-clause-says
-returns-else-is_built-clause-says g c = unbuilt_words (map string_bytes c.args.words.now) (sym c.is_built.ensures ∙ c.if-is_built.false)
+pub returns-else-is_over_sources-clause-says : goal.returns-else-is_over_sources-clause-says
+returns-else-is_over_sources-clause-says g c = other_words (map string_bytes c.args.words.now) (sym c.is_over_sources.ensures ∙ c.if-is_over_sources.false)

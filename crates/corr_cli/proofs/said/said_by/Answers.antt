@@ -1,6 +1,5 @@
-use Rattle.std.proofs.Common.{◌≡◌, map, string_bytes, true, ap, ◌∙◌}
-use Rattle.std.specs.Prelude.{is_some, Some}
-use Rattle.corr_words.specs.Forms.{form}
+use Rattle.std.proofs.Common.{map, string_bytes, ap, ◌∙◌}
+use Rattle.std.specs.Prelude.{Some}
 use Rattle.corr_cli.proofs.SaidLemmas.{may_go, none_of_memory}
 use Rattle.corr_cli.proofs.SaysLemmas.{correlate_says, plain_cause, plain_says}
 use Rattle.corr_cli.proofs.said.said_by.Goals as goal
@@ -16,4 +15,4 @@ returns-in-Ok-Correlate-clause-says g c = correlate_says (map string_bytes c.arg
 
 pub returns-clause-says : goal.returns-clause-says
 returns-clause-says g c =
-    may_go (map string_bytes c.args.words.now) c.requires.built (none_of_memory _ _ c.in-Err-NoMemory.ensures.form c.in-Err-NoMemory.field-0-is) c.in_default.ensures.value
+    may_go (map string_bytes c.args.words.now) c.requires.named (none_of_memory _ _ c.in-Err-NoMemory.ensures.form c.in-Err-NoMemory.field-0-is) c.in_default.ensures.value

@@ -1,6 +1,6 @@
-use Rattle.std.proofs.Common.{refl}
+use Rattle.std.proofs.Common.{refl, true}
 use Rattle.corr_cli.proofs.BegunLemmas.{runs_before, sink_not_begun}
-use Rattle.corr_cli.proofs.run.run_begun.Goals as goal
+use Rattle.corr_cli.proofs.returning.run_begun.Goals as goal
 
 pub returns-in-Err-clause-runs : goal.returns-in-Err-clause-runs
 returns-in-Err-clause-runs g c =
@@ -11,6 +11,7 @@ pub returns-in-Ok-clause-runs : goal.returns-in-Ok-clause-runs
 returns-in-Ok-clause-runs g c =
     runs_before c.args.prepared.plan
     (record {
+      knows = true;
       gives = g.S.PacketSource.gives;
       given = g.S.PacketSource.given;
       begun = g.S.PacketSource.begun;

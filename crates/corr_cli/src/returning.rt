@@ -4,28 +4,32 @@ ghost use Rattle.std.specs.Prelude.{◌≡◌, ◌↔◌, ◌⊎◌, ℕ, ◌<�
 ghost use Rattle.corr_model.specs.Plans.{Fits};
 ghost use Rattle.corr_model.specs.Outputs.{output};
 ghost use Rattle.corr_site.specs.Outside.{Appended, Rises, Rose};
+ghost use Rattle.corr_words.specs.declared.command.Command.{Command};
 ghost use Rattle.corr_words.specs.declared.command.Command.TheVariants.{Correlate};
 ghost use Rattle.corr_settings.specs.declared.settings.Settings.{Settings};
 ghost use Rattle.corr_serial.specs.Sources.{AreBegun, AreSameFrom, KeepsEach};
 ghost use Rattle.corr_serial.specs.Runs.{AreGiven, GaveTaken, NoneRose, list_of};
 ghost use Rattle.corr_cli.specs.Said.{AreRefused, HasRun, form_of, needs_text};
 ghost use Rattle.corr_cli.specs.Placing.{IsAtOwn, AreAtOwn};
-ghost use Rattle.corr_cli.specs.Texts.{IsPrintable, Tells, code_of};
+ghost use Rattle.corr_cli.specs.Texts.{IsPrintable, code_of};
 ghost use Rattle.corr_words.specs.Forms.{form};
-ghost use Rattle.corr_cli.specs.Tools.{ToolRan, command_of, names_tool};
-ghost use Rattle.corr_cli.specs.Runs.{AppendsPackets, Comes, FaultOfSource, IsOverBegun, IsRefusedAs, IsUntouched, IsWhole, RanAs, RefusedCode, RunsPlan, answer_of, sent_answer};
+ghost use Rattle.corr_cli.specs.Tools.{ToolRan, names_tool};
+ghost use Rattle.corr_cli.specs.Runs.{AppendsPackets, Comes, FaultOfSource, IsOverBegun, IsRefusedAs, IsUntouched, IsWhole, RanAs, RefusedCode, RunsPlan};
+ghost use Rattle.corr_cli.specs.Simulating.{AreRefusedFor, IsRefusedFor, SimulatedRan, Simulates, names_simulated, reads_settings, strings_of};
 
 use crate::answer::{Answer, Status};
 use crate::begin::begin_all;
+use crate::outcome::answer_of;
 use crate::report::tell;
 use crate::said::{Asked, Telling, said};
+use crate::simulated::{names_simulated, run_simulated};
 use crate::tools::{names_tool, run_tool};
 use corr_model::Observation;
-use corr_serial::{Outcome, Prepared, Ran, Reports, correlate_serial, prepare};
+use corr_serial::{Prepared, correlate_serial, prepare};
 use corr_site::{PacketSink, PacketSource, Place, TextSink, TextSource};
 use std::alloc::Global;
 use vis_accum::Cross;
-use vis_send::{Sender, Sent};
+use vis_send::Sender;
 
 /// Runs the command of the words over the first of the sources and the sink, and prints its text.
 /// The settings source gives the text of the settings, where the command names one.
@@ -48,7 +52,7 @@ pub fn run_returning<O: Observation, S: PacketSource<O>, K: PacketSink, P: TextS
 
     // What stays.
     ensures length { length sources.new ≡ length sources.old }
-    ensures settings_source { needs_text (map string_bytes words.now) ≡ false → settings.new ≡ settings.old }
+    ensures settings_source { reads_settings (map string_bytes words.now) ≡ false → settings.new ≡ settings.old }
     ensures unused { (run : Settings) → HasRun (map string_bytes words.now) (D.left settings.old) run
         → AreSameFrom run.plan.antennas sources.old sources.new }
     ensures no_memory { result.code ≡ 5
@@ -76,10 +80,20 @@ pub fn run_returning<O: Observation, S: PacketSource<O>, K: PacketSink, P: TextS
     ensures begun_settings { (result.code ≡ 0) ⊎ (result.code ≡ 6) → needs_text (map string_bytes words.now) ≡ true
         → D.begun settings.new ≡ true }
 
+    // The same of `trial` and `simulate`, over simulated inputs; no source is used.
+    ensures simulated_output { (command : Command) (run : Settings) → Simulates (map string_bytes words.now) (D.left settings.old) command run
+        → (result.code ≡ 0) ⊎ (result.code ≡ 6) → Appended (K.sent sink.old) (strings_of command run) (K.sent sink.new) }
+    ensures simulated_front { (command : Command) (run : Settings) → Simulates (map string_bytes words.now) (D.left settings.old) command run
+        → result.code ≡ 4 → AppendsPackets (K.sent sink.old) (K.sent sink.new) (strings_of command run) }
+    ensures simulated_sources { names_simulated (map string_bytes words.now) ≡ true → sources.new ≡ sources.old }
+
     // The causes of the statuses.
-    ensures usage { (result.code ≡ 1) ↔ IsNone (command_of (map string_bytes words.now)) }
-    ensures settings { result.code ≡ 2 → IsRefusedAs (map string_bytes words.now) (D.left settings.old) }
+    ensures usage { (result.code ≡ 1) ↔ IsNone (form (map string_bytes words.now)) }
+    ensures settings { result.code ≡ 2 → IsRefusedAs (map string_bytes words.now) (D.left settings.old)
+        ⊎ IsRefusedFor (map string_bytes words.now) (D.left settings.old) }
     ensures refused { AreRefused (map string_bytes words.now) (D.left settings.old) → RefusedCode (map string_bytes words.now) result.code }
+    ensures simulated_refused { AreRefusedFor (map string_bytes words.now) (D.left settings.old)
+        → (result.code ≡ 2) ⊎ ((result.code ≡ 5) ⊎ (result.code ≡ 8)) }
     ensures settings_fault { result.code ≡ 8 → Rises (D.faults settings.old) (D.faults settings.new) }
     ensures source_fault { (run : Settings) → HasRun (map string_bytes words.now) (D.left settings.old) run → result.code ≡ 3
         → FaultOfSource run.plan S.begun S.faults sources.old sources.new (K.sent sink.old) (K.sent sink.new) }
@@ -94,10 +108,17 @@ pub fn run_returning<O: Observation, S: PacketSource<O>, K: PacketSink, P: TextS
         → (Rose (P.faults print.old) (P.faults print.new) → ⊥)
         → (Rose (D.faults settings.old) (D.faults settings.new) → ⊥)
         → (result.code ≡ 0) ⊎ (result.code ≡ 5) }
+    ensures simulated_whole { (command : Command) (run : Settings) → Simulates (map string_bytes words.now) (D.left settings.old) command run
+        → (Rose (K.faults sink.old) (K.faults sink.new) → ⊥)
+        → (Rose (P.faults print.old) (P.faults print.new) → ⊥)
+        → (Rose (D.faults settings.old) (D.faults settings.new) → ⊥)
+        → (result.code ≡ 0) ⊎ (result.code ≡ 5) }
 
     // The answer that the run came to, with all that is known of it, and its text.
-    ensures ran { names_tool (map string_bytes words.now) ≡ false → RanAs (map string_bytes words.now)
+    ensures ran { names_tool (map string_bytes words.now) ≡ false → names_simulated (map string_bytes words.now) ≡ false
+        → RanAs (map string_bytes words.now)
         (record {
+          knows = true;
           gives = S.gives;
           given = S.given;
           begun = S.begun;
@@ -141,23 +162,43 @@ pub fn run_returning<O: Observation, S: PacketSource<O>, K: PacketSink, P: TextS
           faults_before = P.faults print.old;
           faults = P.faults print.new;
         }) result.code }
-    ensures tool_sources { names_tool (map string_bytes words.now) ≡ true
-        → AreSameFrom 1 sources.old sources.new }
+    ensures tool_sources { names_tool (map string_bytes words.now) ≡ true → AreSameFrom 1 sources.old sources.new }
+
+    // Simulated inputs: what `trial` and `simulate` come to, with their text.
+    ensures simulated { names_simulated (map string_bytes words.now) ≡ true
+        → SimulatedRan (form (map string_bytes words.now))
+        (record {
+          text = D.left settings.old;
+          begun = D.begun settings.new;
+          at = D.at settings.new;
+          faults_before = D.faults settings.old;
+          faults = D.faults settings.new;
+        })
+        (record {
+          sent_before = K.sent sink.old;
+          sent = K.sent sink.new;
+          begun = K.begun sink.new;
+          at = K.at sink.new;
+          faults_before = K.faults sink.old;
+          faults = K.faults sink.new;
+        })
+        (record {
+          before = P.written print.old;
+          now = P.written print.new;
+          faults_before = P.faults print.old;
+          faults = P.faults print.new;
+        }) result.code }
 {
     if names_tool(words) {
         return run_tool::<O, S, K, P>(alloc, words, &mut sources[0], sink, print);
+    }
+    if names_simulated(words) {
+        return run_simulated::<O, K, P, D>(alloc, words, settings, sink, print);
     }
     tell(
         &answer::<O, S, K, D>(alloc, words, settings, sources, sink),
         print,
     )
-}
-
-/// Prints that there is no memory, as a program does that could not even make its sources.
-pub fn no_memory<P: TextSink>(print: &mut P) -> Status
-    ensures { Tells (P.written print.old) (P.written print.new) (P.faults print.old) (P.faults print.new) Answer.NoMemory result.code }
-{
-    tell(&Answer::NoMemory, print)
 }
 
 // What the run of the words comes to.
@@ -187,6 +228,7 @@ fn answer<O: Observation, S: PacketSource<O>, K: PacketSink, D: TextSource>(
     ensures printable { IsPrintable result }
     ensures comes { Comes (map string_bytes words.now)
         (record {
+          knows = true;
           gives = S.gives;
           given = S.given;
           begun = S.begun;
@@ -226,6 +268,7 @@ fn run_asked<O: Observation, S: PacketSource<O>, K: PacketSink>(
     ensures printable { IsPrintable result }
     ensures runs { RunsPlan asked.telling asked.settings.plan
         (record {
+          knows = true;
           gives = S.gives;
           given = S.given;
           begun = S.begun;
@@ -265,6 +308,7 @@ fn run_prepared<O: Observation, S: PacketSource<O>, K: PacketSink>(
     ensures printable { IsPrintable result }
     ensures runs { RunsPlan asked.now.telling prepared.plan
         (record {
+          knows = true;
           gives = S.gives;
           given = S.given;
           begun = S.begun;
@@ -286,7 +330,7 @@ fn run_prepared<O: Observation, S: PacketSource<O>, K: PacketSink>(
 }
 
 // Begins the sink at the place, correlates and sends.
-fn run_begun<O: Observation, S: PacketSource<O>, K: PacketSink>(
+pub(crate) fn run_begun<O: Observation, S: PacketSource<O>, K: PacketSink>(
     prepared: Prepared<Cross, Sender>,
     place: &Place,
     telling: Telling,
@@ -304,6 +348,7 @@ fn run_begun<O: Observation, S: PacketSource<O>, K: PacketSink>(
     ensures over { IsOverBegun result }
     ensures runs { RunsPlan telling prepared.plan
         (record {
+          knows = true;
           gives = S.gives;
           given = S.given;
           begun = S.begun;
@@ -342,6 +387,7 @@ fn correlate<O: Observation, S: PacketSource<O>, K: PacketSink>(
     ensures over { IsOverBegun result }
     ensures runs { RunsPlan telling prepared.plan
         (record {
+          knows = true;
           gives = S.gives;
           given = S.given;
           begun = S.begun;
@@ -357,27 +403,4 @@ fn correlate<O: Observation, S: PacketSource<O>, K: PacketSink>(
 {
     let outcome = correlate_serial::<O, S, K>(prepared, sources, sink);
     answer_of(telling, outcome)
-}
-
-// The answer of a run that ended so.
-fn answer_of(telling: Telling, outcome: Outcome) -> Answer
-    ensures { result ≡ answer_of telling outcome.ran outcome.sent outcome.reports }
-{
-    match outcome.ran {
-        Ran::Done => sent_answer(telling, outcome.sent, outcome.reports, None),
-        Ran::SourceFault(antenna) => {
-            sent_answer(telling, outcome.sent, outcome.reports, Some(antenna))
-        }
-        Ran::SinkFault => Answer::SinkFault,
-    }
-}
-
-// The answer of a run that sent all.
-fn sent_answer(telling: Telling, sent: Sent, reports: Reports, fault: Option<u32>) -> Answer
-    ensures { result ≡ sent_answer telling sent reports fault }
-{
-    match telling {
-        Telling::Packets => Answer::Sent(sent.packets, fault),
-        Telling::Summary => Answer::Summed(sent, reports, fault),
-    }
 }

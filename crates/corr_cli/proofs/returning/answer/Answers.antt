@@ -1,6 +1,6 @@
-use Rattle.std.proofs.Common.{map, string_bytes, sym}
+use Rattle.std.proofs.Common.{map, string_bytes}
 use Rattle.corr_cli.proofs.ComesLemmas.{comes_of_run}
-use Rattle.corr_cli.proofs.run.answer.Goals as goal
+use Rattle.corr_cli.proofs.returning.answer.Goals as goal
 
 pub returns-in-Ok-clause-comes : goal.returns-in-Ok-clause-comes
 returns-in-Ok-clause-comes g c =

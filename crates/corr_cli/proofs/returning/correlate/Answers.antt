@@ -2,14 +2,14 @@ use Rattle.std.proofs.Common.{sym, subst}
 use Rattle.corr_cli.specs.Texts.{IsPrintable}
 use Rattle.corr_cli.specs.Runs.{IsOverBegun, RunsPlan}
 use Rattle.corr_cli.proofs.RunLemmas.{comes_by, over_by, printable_by}
-use Rattle.corr_cli.proofs.run.correlate.Goals as goal
+use Rattle.corr_cli.proofs.returning.correlate.Goals as goal
 
 pub returns-clause-runs : goal.returns-clause-runs
 returns-clause-runs g c =
     let call = c.correlate_serial-outcome in
     let says = call.ensures in
     subst (RunsPlan c.args.telling c.args.prepared.plan _) (sym c.answer_of.ensures)
-    (comes_by c.args.prepared.plan _ call.result.sent c.requires.fits says.begun says.sink_begun c.args.telling call.result.ran call.result.reports says.sends says.counted says.taken says.reports says.whole_reports says.cause)
+    (comes_by c.args.prepared.plan _ call.result.sent c.requires.fits says.begun says.sink_begun c.args.telling call.result.ran call.result.reports says.sends (λ known. says.counted) says.taken says.reports says.whole_reports says.cause)
 
 pub returns-clause-printable : goal.returns-clause-printable
 returns-clause-printable g c =
