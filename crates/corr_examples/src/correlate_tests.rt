@@ -10,7 +10,7 @@ use std::alloc::Global;
 use std::test::Fail;
 
 // Two antennas, one channel, one spectrum, two heaps, one accumulation, as `plain` has them.
-const SETTINGS: &[u8] = b"antennas = 2
+pub const SETTINGS: &str = "antennas = 2
 channels = 1
 spectra = 1
 heaps = 2
@@ -24,13 +24,13 @@ inputs = [\"a.cap\", \"b.cap\"]
 output = \"out.cap\"
 ";
 
-const SUMMARY: &[u8] = b"sent 3 packets 668 bytes mark 4e4ea93018d6ba56
+pub const SUMMARY: &[u8] = b"sent 3 packets 668 bytes mark 4e4ea93018d6ba56
 stream 0 taken 2 ended end refused 0 dropped 0 stale 0 evicted 0 baddesc 0 undescribed 0 foreign 0 before 0 offgrid 0 wild 0 beyond 0 late 0 twice 0 used 2
 stream 1 taken 1 ended end refused 0 dropped 0 stale 0 evicted 0 baddesc 0 undescribed 0 foreign 0 before 0 offgrid 0 wild 0 beyond 0 late 0 twice 0 used 1
 ";
 
-// A text of these bytes.
-fn text_of(alloc: Global, bytes: &[u8], begin_fails: bool) -> Result<ListText, Fail>
+/// A text of these bytes.
+pub fn text_of(alloc: Global, bytes: &[u8], begin_fails: bool) -> Result<ListText, Fail>
     ensures { IfOk result (λ t. is_some t.at ≡ false) }
 {
     let mut list = Vec::new(alloc);
@@ -66,7 +66,7 @@ fn run_line(alloc: Global, line: &str, bytes: &[u8], begin_fails: bool) -> Resul
 
 #[test]
 fn two_antennas_one_heap_lost(rt: HostRuntime) -> Result<(), Fail> {
-    let end = correlate(rt.alloc(), SETTINGS, false)?;
+    let end = correlate(rt.alloc(), SETTINGS.as_bytes(), false)?;
     assert_eq!(rt; end.code, 0);
     assert_eq!(rt; end.print.text(), SUMMARY);
     let wanted = one_accumulation(rt.alloc(), &ONE_HEAP_LOST, [0, 1, 1])?;
@@ -76,7 +76,12 @@ fn two_antennas_one_heap_lost(rt: HostRuntime) -> Result<(), Fail> {
 
 #[test]
 fn without_the_flag_the_same_is_sent(rt: HostRuntime) -> Result<(), Fail> {
-    let end = run_line(rt.alloc(), "spead_corr correlate run.toml", SETTINGS, false)?;
+    let end = run_line(
+        rt.alloc(),
+        "spead_corr correlate run.toml",
+        SETTINGS.as_bytes(),
+        false,
+    )?;
     assert_eq!(rt; end.code, 0);
     assert_eq!(rt; end.print.text(), SUMMARY);
     Ok(())
@@ -84,7 +89,7 @@ fn without_the_flag_the_same_is_sent(rt: HostRuntime) -> Result<(), Fail> {
 
 #[test]
 fn settings_that_cannot_be_read(rt: HostRuntime) -> Result<(), Fail> {
-    let end = correlate(rt.alloc(), SETTINGS, true)?;
+    let end = correlate(rt.alloc(), SETTINGS.as_bytes(), true)?;
     assert_eq!(rt; end.code, 8);
     assert_eq!(rt; end.print.text(), b"settings source fault\n".as_slice());
     assert_eq!(rt; end.begun_sources(), 0);
@@ -103,8 +108,8 @@ fn a_setting_that_is_missing(rt: HostRuntime) -> Result<(), Fail> {
     Ok(())
 }
 
-// The settings of four antennas.
-const FOUR: &str = "antennas = 4\nchannels = 16\nspectra = 256\nheaps = 256\nstep = 8192\n\
+/// The settings of four antennas.
+pub const FOUR: &str = "antennas = 4\nchannels = 16\nspectra = 256\nheaps = 256\nstep = 8192\n\
 accumulations = 2\nworkers = 4\ninputs = [\"a\", \"b\", \"c\", \"d\"]\noutput = \"o\"\n";
 
 // Settings that reserve more than 2^30 bytes.

@@ -18,6 +18,10 @@ mod packets;
 #[cfg(test)]
 mod plain_tests;
 #[cfg(test)]
+mod thread_tests;
+#[cfg(test)]
 mod tool_tests;
+#[cfg(test)]
+mod trial_tests;
 #[cfg(test)]
 mod words_tests;

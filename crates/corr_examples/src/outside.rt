@@ -166,7 +166,7 @@ pub fn run_over(
         return Err(Fail::from("not 64 sources"));
     }
     let fails = fault.sink_calls(alloc)?;
-    let mut sink = ListSink::new(alloc, 8, 4096, fails, fault == Fault::SinkBegin)?;
+    let mut sink = ListSink::new(alloc, 32, 32768, fails, fault == Fault::SinkBegin)?;
     let mut print = ListPrint::new(alloc, 1024, fault.print_calls(alloc)?)?;
     let status = run_returning::<Unheard, _, _, _, _>(
         alloc,
