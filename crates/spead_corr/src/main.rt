@@ -1,9 +1,13 @@
 //! The program `spead_corr`: real files and standard output, handed to the correlator.
 #![tactic(auto)]
 
-use corr_cli::{no_memory, run_returning};
+mod seats;
+
+use crate::seats::program_seats;
+use corr_cli::{no_memory, run};
 use corr_model::Unheard;
-use corr_net::{FileText, HeldFiles, ProgramSink, StdPrint, program_sources, say_usage};
+use corr_net::{FileText, HeldFiles, PrintFault, ProgramSink, Progress, StdPrint, say_usage};
+use corr_site::NoGate;
 use std::env;
 use std::io::ErrorKind;
 use std::process::ExitCode;
@@ -12,7 +16,8 @@ use std::process::ExitCode;
 const USAGE: u8 = 1;
 
 fn main(rt: HostRuntime) -> ExitCode {
-    let mut print = StdPrint::new(&rt);
+    let fault = PrintFault::new();
+    let mut print = StdPrint::new(&rt, &fault);
     let mut words = Vec::new(rt.alloc());
     match env::args(&rt) {
         Ok(args) => {
@@ -31,16 +36,18 @@ fn main(rt: HostRuntime) -> ExitCode {
     let Ok(held) = HeldFiles::new(rt.alloc()) else {
         return ExitCode::from(no_memory(&mut print).code);
     };
-    let Ok(mut sources) = program_sources(rt.alloc(), &rt, &held) else {
+    let Ok(mut seats) = program_seats(rt.alloc(), &rt, &held, &fault) else {
         return ExitCode::from(no_memory(&mut print).code);
     };
-    let status = run_returning::<Unheard, _, _, _, _>(
+    let status = run::<Unheard, _, _, _, _, _, _>(
+        &rt,
         rt.alloc(),
         words.as_slice(),
         &mut FileText::new(&rt, held.settings()),
-        sources.as_mut_slice(),
-        &mut ProgramSink::new(&rt, &held),
+        seats.as_mut_slice(),
+        &mut ProgramSink::new(&rt, &held, Progress::on(&rt.stderr())),
         &mut print,
+        &NoGate,
     );
     if status.code == USAGE {
         say_usage(&rt, words.as_slice());
