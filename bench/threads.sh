@@ -1,0 +1,94 @@
+#!/usr/bin/env bash
+# What threads bring: the same observation by `correlate --serial` and by `correlate` with 0, 1, 2 and 4 workers, at a
+# load that multiplies (16 antennas, 64 channels) and at one that receives (4 antennas, 1 channel). For each the least
+# seconds of some runs, how many times as fast as one worker that is, and the greatest memory. All outputs are equal.
+# Usage: bench/threads.sh [PROGRAM [RUNS]]
+set -euo pipefail
+
+source -- "${BASH_SOURCE[0]%/*}/common.sh" "${1:-}"
+runs=${2:-3}
+
+# Writes the captures of all antennas: a heap of one packet at each timestamp, with samples that differ.
+make_captures() {
+    python3 - "$folder" "$antennas" "$((4 * channels * spectra))" "$((heaps * accumulations))" <<'PYTHON'
+import random
+import struct
+import sys
+
+folder, antennas, size, timestamps = sys.argv[1], *map(int, sys.argv[2:])
+noise = random.Random(1).randbytes(size + 4096)
+for antenna in range(antennas):
+    with open(f"{folder}/{antenna}.cap", "wb") as capture:
+        capture.write(b"SPCAPT01")
+        for t in range(timestamps):
+            words = (0x5304020600000007, 0x8001 << 48 | t + 1, 0x8002 << 48 | size, 0x8003 << 48,
+                     0x8004 << 48 | size, 0x9600 << 48 | t, 0xC101 << 48 | antenna, 0x4300 << 48)
+            start = (t * (antenna + 7)) % 4096
+            capture.write(struct.pack(">I8Q", 64 + size, *words) + noise[start:start + size])
+PYTHON
+}
+
+# Writes the settings for this number of workers.
+write_settings() {
+    local antenna inputs=
+    for ((antenna = 0; antenna < antennas; antenna++)); do
+        inputs+="\"$folder/$antenna.cap\", "
+    done
+    cat >"$folder/settings.toml" <<TOML
+antennas = $antennas
+channels = $channels
+spectra = $spectra
+heaps = $heaps
+accumulations = $accumulations
+step = 1
+slots = 8
+workers = $1
+preset = true
+inputs = [${inputs%, }]
+output = "$folder/out.cap"
+TOML
+}
+
+# The least seconds and the greatest KiB of some runs, after the name: `serial`, or the number of workers.
+measure() {
+    local name=$1 flags=() run least= most=0
+    if [ "$name" = serial ]; then
+        write_settings 0
+        flags=(--serial)
+    else
+        write_settings "$name"
+    fi
+    for ((run = 0; run < runs; run++)); do
+        /usr/bin/time -o "$folder/time" -f '%e %M' "$program" correlate "${flags[@]}" "$folder/settings.toml" >"$folder/text"
+        read -r seconds kib <"$folder/time"
+        least=$(awk -v least="$least" -v t="$seconds" 'BEGIN { print (least == "" || t < least) ? t : least }')
+        most=$((kib > most ? kib : most))
+    done
+    cmp -s "$folder/out.cap" "$folder/first.cap" 2>/dev/null || [ ! -e "$folder/first.cap" ] || {
+        echo "bench: another output with $name" >&2
+        return 1
+    }
+    [ -e "$folder/first.cap" ] || cp "$folder/out.cap" "$folder/first.cap"
+    echo "$name $least $most"
+}
+
+# One load, by its name: makes the captures and measures each way.
+bench() {
+    rm -f "$folder"/*.cap
+    make_captures
+    echo "$1: $antennas antennas, $channels channels, $spectra spectra, $heaps heaps, $accumulations accumulations"
+    local way
+    for way in serial 0 1 2 4; do
+        measure "$way"
+    done | awk '
+        { name[NR] = $1; seconds[NR] = $2 > 0.01 ? $2 : 0.01; kib[NR] = $3 }
+        $1 == "1" { one = seconds[NR] }
+        END { for (i = 1; i <= NR; i++)
+                  printf "  %-8s %7.2f s, %5.2f times as fast as one worker, %8d KiB at most\n",
+                      name[i] == "serial" ? "--serial" : "workers " name[i], seconds[i], one / seconds[i], kib[i] }'
+}
+
+antennas=16 channels=64 spectra=64 heaps=64 accumulations=16
+bench multiply
+antennas=4 channels=1 spectra=256 heaps=64 accumulations=768
+bench receive
