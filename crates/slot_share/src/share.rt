@@ -1,6 +1,6 @@
 //! The ring of a run, shared between threads.
 
-ghost use Rattle.std.specs.Prelude.{◌≡◌, ◌<◌, ◌^◌, true};
+ghost use Rattle.std.specs.Prelude.{◌≡◌, ◌≢◌, ◌<◌, ◌^◌, true};
 ghost use Rattle.slot_share.specs.Shares.{SharePuts, ShareTakes, ShareStores, ShareSends};
 
 use corr_model::{Observation, Plan};
@@ -90,7 +90,9 @@ impl<O: Observation, B: Backend> Share<O, B> {
     ///
     /// `seen` is what the last `pause` answered, or 0 before any, and is known before the call that
     /// was then refused: a count that was read after it could hide the change that it waits for.
-    pub fn pause<R: Wait>(&self, rt: &R, seen: u64) -> u64 {
+    pub fn pause<R: Wait>(&self, rt: &R, seen: u64) -> u64
+        ensures changed { result ≢ seen }
+    {
         *self
             .changed
             .wait_while(rt, self.changes.lock(rt), |changes| *changes == seen)
