@@ -50,7 +50,6 @@ impl Cursor {
         antenna: u32,
     ) -> Result<Cursor, NoMemory>
         requires fits { Fits plan.now }
-        requires antenna { antenna ≤ 64 }
         ensures { IfOk result (λ c. c ≡ record {
           plan = plan.now;
           seed = seed;
