@@ -32,6 +32,7 @@ turn_silent m s v before f broken below =
         is_meant = λ sound. absurd (false≢true (sym sound ∙ broken));
         goes = subst (λ b. SendsBy b b strings v now before before f f) (sym broken) (record { same = refl; same_sent = refl; same_faults = refl });
       };
+      keeps_held = refl;
     }
 
 -- the result was sent, or the sink failed
@@ -50,6 +51,7 @@ turn_sent m s v sent sums before now f after (Ok x) sound below meant sends caus
         is_meant = λ b. meant;
         goes = subst (λ b. SendsBy b false strings v w before now f after) (sym sound) (record { sends = sends; same_faults = cause.kept });
       };
+      keeps_held = refl;
     }
 turn_sent m s v sent sums before now f after (Err e) sound below meant sends cause =
     let w : DispatchView = record v { sent = sent; broken = true; passed = v.passed + 1 } in
@@ -63,6 +65,7 @@ turn_sent m s v sent sums before now f after (Err e) sound below meant sends cau
         is_meant = λ b. meant;
         goes = subst (λ b. SendsBy b true strings v w before now f after) (sym sound) (record { sends = sends; rises = record { later = cause.later; rose = cause.failed } });
       };
+      keeps_held = refl;
     }
 
 -- the slot refused
@@ -74,4 +77,5 @@ turn_waits m s v h before f refuses = record {
     record { shown = h; is_held = refl; refuses = refuses },
     record { same_passed = refl; same_broken = refl; silent = record { same = refl; same_sent = refl; same_faults = refl } },
   );
+  keeps_held = tt;
 }

@@ -11,6 +11,7 @@ use Rattle.vis_send.specs.declared.tally.Sent.{Sent}
 use Rattle.vis_send.specs.Emitters.{Strings}
 use Rattle.vis_send.specs.Sending.{SendsWhole, SendsFront}
 use Rattle.corr_core.specs.Sends.{sent_together}
+use Rattle.corr_threads.specs.Holding.{KeepsHeld}
 use Rattle.corr_threads.specs.declared.turn.Turn.{Turn}
 use Rattle.corr_threads.specs.declared.turn.Turn.TheVariants as turns
 
@@ -83,3 +84,4 @@ DispatchCause m s old turns.Done new before now faults after = (new.passed ≡ n
 pub record DispatchTurn (m : Means) (s : Strings) (old : DispatchView) (answer : Turn) (new : DispatchView) (before now : Option (List (List ℕ))) (faults after : ℕ) : Type 0 where
   pub same_plan : new.plan ≡ old.plan
   pub cause : DispatchCause m s old answer new before now faults after
+  pub keeps_held : KeepsHeld answer old.held new.held

@@ -1,3 +1,4 @@
 pub mod Dispatches
+pub mod Holding
 pub mod Receivers
 pub mod Workers

@@ -12,6 +12,7 @@ use Rattle.stream_feed.specs.Counting.{counts_of}
 use Rattle.stream_feed.specs.Feeding.{FeedState, StandsFor, IsOfList, EndsAs}
 use Rattle.slot_ring.specs.declared.held.Held.{Held}
 use Rattle.slot_ring.specs.declared.held.Kind.TheVariants.{Filling}
+use Rattle.corr_threads.specs.Holding.{KeepsHeld}
 use Rattle.corr_threads.specs.declared.turn.Turn.{Turn}
 use Rattle.corr_threads.specs.declared.turn.Turn.TheVariants as turns
 
@@ -134,6 +135,7 @@ pub record ReceiverTurn (old : ReceiverView) (answer : Turn) (new : ReceiverView
   pub keeps : KeepsStream old new
   pub cause : ReceiverCause old answer new
   pub rests : ReceiverRests old answer new
+  pub keeps_held : KeepsHeld answer old.held new.held
 
 -- the hand has the column that was due
 pub record FillsHand (old new : ReceiverView) : Type 0 where
@@ -141,6 +143,7 @@ pub record FillsHand (old new : ReceiverView) : Type 0 where
   pub same_report : new.feed.report ≡ old.feed.report
   pub same_placed : new.placed ≡ old.placed
   pub is_closed : new.hand.is_closed ≡ true
+  pub same_held : new.held ≡ old.held
 
 -- why a put answers this
 abbrev pub PutCause : ReceiverView → Turn → ReceiverView → Type 0
@@ -153,8 +156,10 @@ pub record PutTurn (old : ReceiverView) (answer : Turn) (new : ReceiverView) : T
   pub keeps : KeepsStream old new
   pub same_feed : new.feed ≡ old.feed
   pub cause : PutCause old answer new
+  pub keeps_held : KeepsHeld answer old.held new.held
 
 -- a string was taken, or the stream ended
 pub record TakeTurn (old new : ReceiverView) : Type 0 where
   pub keeps : KeepsStream old new
   pub moved : HasMoved old new
+  pub same_held : new.held ≡ old.held
