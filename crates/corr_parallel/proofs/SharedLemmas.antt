@@ -32,7 +32,7 @@ left_next items rest after x len later n h e c low =
 
 -- the receiver of a new feed
 pub new_receiver : (plan : Plan) (antenna : ℕ) (f : FeedState) (hand : Hand) (v : ReceiverView) → IsNewFeed plan antenna f → v ≡ record { plan = plan; antenna = antenna; feed = f; hand = hand; placed = 0; held = None } → IsNewReceiver plan antenna v
-new_receiver plan antenna f hand v is e = subst (IsNewReceiver plan antenna) (sym e) (record { same_plan = refl; same_antenna = refl; took_none = none_taken f is.stands; goes_on = is.goes_on })
+new_receiver plan antenna f hand v is e = subst (IsNewReceiver plan antenna) (sym e) (record { same_plan = refl; same_antenna = refl; took_none = none_taken f is.stands; placed_none = refl; goes_on = is.goes_on })
 
 -- what is said of each element is said of the one that was taken
 pub taken_new : {X : Type 0} (P : ℕ → X → Type 0) (count : ℕ) (items rest after : List X) (x : X) (len later n : ℕ) → Built P count items → Left items rest len n → rest ≡ x ∷ after → later + 1 ≡ len → n < count → P n x × Left items after later (n + 1)

@@ -1,3 +1,4 @@
+pub mod NewWorkers
 pub mod Runs
 pub mod Seats
 pub mod Senders

@@ -10,11 +10,12 @@ use Rattle.corr_serial.specs.Sources.{KeepsSource, RisesIf}
 use Rattle.corr_serial.specs.Hearing.{is_fault}
 use Rattle.corr_threads.specs.Receivers.{ReceiverView, SourceTold}
 
--- a receiver of an antenna of the plan that took nothing yet
+-- a receiver of an antenna of the plan that took and placed nothing yet
 pub record IsNewReceiver (plan : Plan) (antenna : ℕ) (v : ReceiverView) : Type 0 where
   pub same_plan : v.plan ≡ plan
   pub same_antenna : v.antenna ≡ antenna
   pub took_none : v.feed.report.taken ≡ 0
+  pub placed_none : v.placed ≡ 0
   pub goes_on : v.feed.report.ended ≡ None
 
 -- the source gave exactly the strings of its list that count, and the report is the list's

@@ -8,7 +8,7 @@ ghost use Rattle.slot_ring.specs.Slots.{free_work};
 ghost use Rattle.vis_send.specs.Marks.{nothing};
 ghost use Rattle.corr_machine.specs.Machines.{work_count};
 ghost use Rattle.corr_core.specs.New.{Built, IsNewFeed};
-ghost use Rattle.corr_threads.specs.Workers.{WorkerView};
+ghost use Rattle.corr_parallel.specs.NewWorkers.{new_worker};
 ghost use Rattle.corr_parallel.specs.Seats.{IsNewReceiver};
 ghost use Rattle.corr_parallel.specs.Senders.{IsNewDispatch};
 
@@ -47,7 +47,7 @@ pub struct SharedOf<O: Observation, B: Backend, E: Emit<Out = B::Out>> {
     ghost fits: { Fits plan },
     ghost named: { O.names ≡ true → plan ≡ O.plan },
     ghost new_receivers: { Built (IsNewReceiver plan) plan.antennas receivers.items },
-    ghost own_workers: { Built (λ w x. x.plan ≡ plan) (work_count plan) workers.items },
+    ghost own_workers: { Built (λ w x. x ≡ new_worker plan) (work_count plan) workers.items },
     ghost new_dispatch: { IsNewDispatch plan dispatch },
     ghost suits: { B.serves backend plan ≡ true },
     ghost one_each: { vec_len reports ≡ plan.antennas },
@@ -101,7 +101,7 @@ fn new_workers<O: Observation, B: Backend>(
     requires fits { Fits plan.now }
     requires works { Built (λ w k. k ≡ free_work plan.now (B.size plan.now))
         (work_count plan.now) works.items }
-    ensures { IfOk result (λ v. Built (λ w x. x.plan ≡ plan.now) (work_count plan.now) v.items) }
+    ensures { IfOk result (λ v. Built (λ w x. x ≡ new_worker plan.now) (work_count plan.now) v.items) }
 {
     let count = plan.workers.max(1);
     let mut workers = Vec::with_capacity(alloc, count as usize)?;
