@@ -8,9 +8,45 @@ use Rattle.corr_words.specs.Words.{is_flag, is_operand, number, word_at}
 use Rattle.corr_words.specs.Forms.{command_form, form, rest_form, simulate_form, sound_form, trial_form}
 use Rattle.corr_cli.specs.Said.{form_of, if_over_sources, needs_text}
 use Rattle.corr_cli.specs.Tools.{names_tool}
-use Rattle.corr_cli.specs.Simulating.{IsOfSimulated, names_simulated, reads_settings}
+use Rattle.corr_cli.specs.Simulating.{IsOfSimulated, IsTrial, names_simulated, reads_settings}
 use Rattle.corr_cli.proofs.SaidLemmas.{AllOverSources, correlate_over, either_over, none_over, plain_over, other_words}
 use Rattle.corr_cli.proofs.ToolLemmas.{named_so, or_true, same_bytes}
+
+-- where there is a command, it is `trial`
+abbrev pub AreTrials : Option Command → Type 0
+AreTrials None = Unit {0}
+AreTrials (Some c) = IsTrial c
+
+either_trial : (b : Bool) (x y : Option Command) → AreTrials x → AreTrials y → AreTrials (cond b x y)
+either_trial true x y h k = h
+either_trial false x y h k = k
+
+mapped_trial : {A : Type 0} (g : A → Command) → ((a : A) → IsTrial (g a)) → (o : Option A) → AreTrials (option_map g o)
+mapped_trial g h None = tt
+mapped_trial g h (Some a) = h a
+
+trial_operands : (serial : Bool) (operands : List (List ℕ)) → AreTrials (trial_form serial operands)
+trial_operands serial [] = tt
+trial_operands serial (config ∷ []) = tt
+trial_operands serial (config ∷ seed ∷ []) = mapped_trial _ (λ n. tt) (number seed)
+trial_operands serial (config ∷ seed ∷ x ∷ xs) = tt
+
+trial_sound : (serial : Bool) (operands : List (List ℕ)) → AreTrials (sound_form (codes "trial") serial operands)
+trial_sound serial operands = either_trial (list_all is_operand operands) (trial_form serial operands) None (trial_operands serial operands) tt
+
+trial_rest : (rest : List (List ℕ)) → AreTrials (rest_form (codes "trial") rest)
+trial_rest rest =
+    either_trial (nat_le (length (filter is_flag rest)) 1) (sound_form (codes "trial") (list_any is_flag rest) (filter (λ word. not (is_flag word)) rest)) (sound_form (codes "trial") false rest)
+    (trial_sound (list_any is_flag rest) (filter (λ word. not (is_flag word)) rest)) (trial_sound false rest)
+
+words_trial : (words : List (List ℕ)) → bytes_eq (word_at words 1) (codes "trial") ≡ true → AreTrials (form words)
+words_trial words is =
+    either_trial (nat_le 2 (length words)) (rest_form (word_at words 1) (drop 2 words)) None
+    (subst (λ k. AreTrials (rest_form k (drop 2 words))) (sym (same_bytes (word_at words 1) (codes "trial") is)) (trial_rest (drop 2 words))) tt
+
+-- the command of words that name it is `trial`
+pub is_trial : (words : List (List ℕ)) (c : Command) → bytes_eq (word_at words 1) (codes "trial") ≡ true → form words ≡ Some c → IsTrial c
+is_trial words c is e = subst AreTrials e (words_trial words is)
 
 -- where there is a command, it is one over simulated inputs
 abbrev pub AreSimulators : Option Command → Type 0
@@ -29,12 +65,6 @@ chained_simulator : {A B : Type 0} (g : A → B → Command) → ((a : A) (b : B
 chained_simulator g h None p = tt
 chained_simulator g h (Some a) p = mapped_simulator (g a) (h a) p
 
-trial_simulator : (serial : Bool) (operands : List (List ℕ)) → AreSimulators (trial_form serial operands)
-trial_simulator serial [] = tt
-trial_simulator serial (config ∷ []) = tt
-trial_simulator serial (config ∷ seed ∷ []) = mapped_simulator _ (λ n. tt) (number seed)
-trial_simulator serial (config ∷ seed ∷ x ∷ xs) = tt
-
 simulate_simulator : (operands : List (List ℕ)) → AreSimulators (simulate_form operands)
 simulate_simulator [] = tt
 simulate_simulator (config ∷ []) = tt
@@ -43,20 +73,22 @@ simulate_simulator (config ∷ seed ∷ antenna ∷ []) = tt
 simulate_simulator (config ∷ seed ∷ antenna ∷ out ∷ []) = chained_simulator _ (λ n a. tt) (number seed) (number antenna)
 simulate_simulator (config ∷ seed ∷ antenna ∷ out ∷ x ∷ xs) = tt
 
-trial_sound : (serial : Bool) (operands : List (List ℕ)) → AreSimulators (sound_form (codes "trial") serial operands)
-trial_sound serial operands = either_simulator (list_all is_operand operands) (trial_form serial operands) None (trial_simulator serial operands) tt
-
-trial_rest : (rest : List (List ℕ)) → AreSimulators (rest_form (codes "trial") rest)
-trial_rest rest =
-    either_simulator (nat_le (length (filter is_flag rest)) 1) (sound_form (codes "trial") (list_any is_flag rest) (filter (λ word. not (is_flag word)) rest)) (sound_form (codes "trial") false rest)
-    (trial_sound (list_any is_flag rest) (filter (λ word. not (is_flag word)) rest)) (trial_sound false rest)
+trial_simulates : (o : Option Command) → AreTrials o → AreSimulators o
+trial_simulates None h = tt
+trial_simulates (Some (Trial config seed serial)) h = tt
+trial_simulates (Some (Simulate config seed antenna out)) h = tt
+trial_simulates (Some (Plain p)) h = absurd h
+trial_simulates (Some (Correlate config serial)) h = absurd h
+trial_simulates (Some (Relay from to limit)) h = absurd h
+trial_simulates (Some (Inspect from)) h = absurd h
+trial_simulates (Some (Decode from limit)) h = absurd h
 
 simulate_rest : (rest : List (List ℕ)) → AreSimulators (rest_form (codes "simulate") rest)
 simulate_rest rest = either_simulator (list_all is_operand rest) (simulate_form rest) None (simulate_simulator rest) tt
 
 rest_simulator : (command : List ℕ) (rest : List (List ℕ)) → (bytes_eq command (codes "trial") || bytes_eq command (codes "simulate")) ≡ true → AreSimulators (rest_form command rest)
 rest_simulator command rest h = elim (or_true (bytes_eq command (codes "trial")) (bytes_eq command (codes "simulate")) h) [
-  | inl is ↦ subst (λ k. AreSimulators (rest_form k rest)) (sym (same_bytes command (codes "trial") is)) (trial_rest rest)
+  | inl is ↦ subst (λ k. AreSimulators (rest_form k rest)) (sym (same_bytes command (codes "trial") is)) (trial_simulates (rest_form (codes "trial") rest) (trial_rest rest))
   | inr is ↦ subst (λ k. AreSimulators (rest_form k rest)) (sym (same_bytes command (codes "simulate") is)) (simulate_rest rest)
 ]
 

@@ -4,6 +4,7 @@ pub mod Placing
 pub mod Runs
 pub mod Said
 pub mod Says
+pub mod Seeing
 pub mod Simulating
 pub mod Texts
 pub mod Tools

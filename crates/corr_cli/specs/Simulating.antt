@@ -32,6 +32,11 @@ use Rattle.corr_cli.specs.Tools.{IsUnused, PrintSeen, SinkSeen}
 abbrev pub names_simulated : List (List ℕ) → Bool
 names_simulated words = bytes_eq (word_at words 1) (codes "trial") || bytes_eq (word_at words 1) (codes "simulate")
 
+-- the command is `trial`
+abbrev pub IsTrial : Command → Type 0
+IsTrial (Trial config seed serial) = Unit {0}
+IsTrial other = ⊥
+
 -- the command is one over simulated inputs
 abbrev pub IsOfSimulated : Command → Type 0
 IsOfSimulated (Trial config seed serial) = Unit {0}
@@ -127,42 +132,42 @@ pub record AreReported (plan : Plan) (seed : ℕ) (reports : List StreamReport) 
   pub as_many : length reports ≡ plan.antennas
   pub each : (a : ℕ) (r : StreamReport) → a < plan.antennas → IsReportOf plan a (simulated plan seed a) (slice_index_or reports a r)
 
--- the answer counts all that the command sends, and reports on each input; no source fails
-abbrev pub Counts : Command → Run → Answer → Type 0
-Counts (Trial config seed serial) run (answers.Summed sent reports fault) =
-    (fault ≡ None) × (sent ≡ sent_of (strings_of (Trial config seed serial) run)) × AreReported run.plan seed reports
-Counts (Simulate config seed antenna out) run (answers.Simulated packets) = packets ≡ length (simulated run.plan seed antenna)
-Counts command run other = ⊥
+-- the answer counts all that the command sends, and reports on each input, where that is known; no source fails
+abbrev pub Counts : Bool → Command → Run → Answer → Type 0
+Counts knows (Trial config seed serial) run (answers.Summed sent reports fault) =
+    (fault ≡ None) × (knows ≡ true → (sent ≡ sent_of (strings_of (Trial config seed serial) run)) × AreReported run.plan seed reports)
+Counts knows (Simulate config seed antenna out) run (answers.Simulated packets) = packets ≡ length (simulated run.plan seed antenna)
+Counts knows command run other = ⊥
 
 -- the sink is not begun, nothing was sent, and it counted no fault
 pub record IsIdle (sink : SinkSeen) : Type 0 where
   pub unused : IsUnused sink
   pub calm : sink.faults ≡ sink.faults_before
 
--- all was sent to its place, and counted
-pub record SendsStrings (command : Command) (run : Run) (sink : SinkSeen) (answer : Answer) : Type 0 where
+-- all was sent to its place, and counted; what that is holds where it is known
+pub record SendsStrings (knows : Bool) (command : Command) (run : Run) (sink : SinkSeen) (answer : Answer) : Type 0 where
   pub accepted : accepted_for command run ≡ Ok run
   pub begun : sink.begun ≡ true
   pub at : IsAtOwn sink.begun sink.at (target_of command run)
   pub calm : sink.faults ≡ sink.faults_before
-  pub sent : Appended sink.sent_before (strings_of command run) sink.sent
-  pub counts : Counts command run answer
+  pub sent : knows ≡ true → Appended sink.sent_before (strings_of command run) sink.sent
+  pub counts : Counts knows command run answer
 
--- a front was sent, and the sink counted a fault
-pub record SendsSome (command : Command) (run : Run) (sink : SinkSeen) : Type 0 where
+-- a front was sent, where it is known of what, and the sink counted a fault
+pub record SendsSome (knows : Bool) (command : Command) (run : Run) (sink : SinkSeen) : Type 0 where
   pub accepted : accepted_for command run ≡ Ok run
   pub at : IsAtOwn sink.begun sink.at (target_of command run)
   pub rose : Rises sink.faults_before sink.faults
-  pub front : AppendsPackets sink.sent_before sink.sent (strings_of command run)
+  pub front : knows ≡ true → AppendsPackets sink.sent_before sink.sent (strings_of command run)
 
 -- what a command over simulated inputs comes to with these settings
-abbrev pub RunsFor : Command → Run → SinkSeen → Answer → Type 0
-RunsFor command run sink (answers.Settings refusal) = (accepted_for command run ≡ Err refusal) × IsIdle sink
-RunsFor command run sink answers.NoMemory = IsIdle sink
-RunsFor command run sink answers.SinkFault = SendsSome command run sink
-RunsFor command run sink (answers.Summed sent reports fault) = SendsStrings command run sink (answers.Summed sent reports fault)
-RunsFor command run sink (answers.Simulated packets) = SendsStrings command run sink (answers.Simulated packets)
-RunsFor command run sink other = ⊥
+abbrev pub RunsFor : Bool → Command → Run → SinkSeen → Answer → Type 0
+RunsFor knows command run sink (answers.Settings refusal) = (accepted_for command run ≡ Err refusal) × IsIdle sink
+RunsFor knows command run sink answers.NoMemory = IsIdle sink
+RunsFor knows command run sink answers.SinkFault = SendsSome knows command run sink
+RunsFor knows command run sink (answers.Summed sent reports fault) = SendsStrings knows command run sink (answers.Summed sent reports fault)
+RunsFor knows command run sink (answers.Simulated packets) = SendsStrings knows command run sink (answers.Simulated packets)
+RunsFor knows command run sink other = ⊥
 
 -- the sink is idle, and the source of the settings counted no fault
 pub record IsLeft (config : ConfigSeen) (sink : SinkSeen) : Type 0 where
@@ -198,10 +203,10 @@ answer_to (relayed.Done packets) = answers.Simulated packets
 answer_to (relayed.SourceFault packets) = answers.Simulated packets
 answer_to relayed.SinkFault = answers.SinkFault
 
--- the sources give the simulated inputs, one for each antenna in order, and have given nothing
-pub record AreSimulated (plan : Plan) (seed : ℕ) (sources : List Spot) : Type 0 where
-  pub lists : map (λ s. simulated s.plan s.seed s.antenna) sources ≡ simulated_inputs plan seed
-  pub left : map rest_of sources ≡ simulated_inputs plan seed
+-- the sources in the seats give the simulated inputs, one for each antenna in order, and have given nothing
+pub record AreSimulated {S : Type 0} (plan : Plan) (seed : ℕ) (source : S → Spot) (seats : List S) : Type 0 where
+  pub lists : map (λ s. simulated (source s).plan (source s).seed (source s).antenna) seats ≡ simulated_inputs plan seed
+  pub left : map (λ s. rest_of (source s)) seats ≡ simulated_inputs plan seed
 
 -- the settings were read, and the command came to this with them
 pub record OfSettings (command : Command) (config : ConfigSeen) (P : Run → Type 0) : Type 0 where
@@ -212,22 +217,22 @@ pub record OfSettings (command : Command) (config : ConfigSeen) (P : Run → Typ
   pub runs : P run
 
 -- what a command over simulated inputs comes to; no source of packets is used
-abbrev pub ComesTo : Command → ConfigSeen → SinkSeen → Answer → Type 0
-ComesTo command config sink answers.SettingsFault = Rises config.faults_before config.faults × IsIdle sink
-ComesTo command config sink (answers.Settings refusal) = SaysFor command config.text (Err refusal) × IsLeft config sink
-ComesTo command config sink answers.NoMemory = IsLeft config sink
-ComesTo command config sink answers.SinkFault = OfSettings command config (λ run. SendsSome command run sink)
-ComesTo command config sink (answers.Summed sent reports fault) = OfSettings command config (λ run. SendsStrings command run sink (answers.Summed sent reports fault))
-ComesTo command config sink (answers.Simulated packets) = OfSettings command config (λ run. SendsStrings command run sink (answers.Simulated packets))
-ComesTo command config sink other = ⊥
+abbrev pub ComesTo : Bool → Command → ConfigSeen → SinkSeen → Answer → Type 0
+ComesTo knows command config sink answers.SettingsFault = Rises config.faults_before config.faults × IsIdle sink
+ComesTo knows command config sink (answers.Settings refusal) = SaysFor command config.text (Err refusal) × IsLeft config sink
+ComesTo knows command config sink answers.NoMemory = IsLeft config sink
+ComesTo knows command config sink answers.SinkFault = OfSettings command config (λ run. SendsSome knows command run sink)
+ComesTo knows command config sink (answers.Summed sent reports fault) = OfSettings command config (λ run. SendsStrings knows command run sink (answers.Summed sent reports fault))
+ComesTo knows command config sink (answers.Simulated packets) = OfSettings command config (λ run. SendsStrings knows command run sink (answers.Simulated packets))
+ComesTo knows command config sink other = ⊥
 
 -- what the words of a command over simulated inputs come to, by their form
-abbrev pub WordsCome : Option Command → ConfigSeen → SinkSeen → Answer → Type 0
-WordsCome None config sink answer = (answer ≡ answers.Usage) × IsLeft config sink
-WordsCome (Some command) config sink answer = ComesTo command config sink answer × IsAtOwn config.begun config.at (config_of command)
+abbrev pub WordsCome : Bool → Option Command → ConfigSeen → SinkSeen → Answer → Type 0
+WordsCome knows None config sink answer = (answer ≡ answers.Usage) × IsLeft config sink
+WordsCome knows (Some command) config sink answer = ComesTo knows command config sink answer × IsAtOwn config.begun config.at (config_of command)
 
 -- there is an answer to the words that the run came to, and it was told
-pub record SimulatedRan (o : Option Command) (config : ConfigSeen) (sink : SinkSeen) (print : PrintSeen) (code : ℕ) : Type 0 where
+pub record SimulatedRan (knows : Bool) (o : Option Command) (config : ConfigSeen) (sink : SinkSeen) (print : PrintSeen) (code : ℕ) : Type 0 where
   pub answer : Answer
-  pub comes : WordsCome o config sink answer
+  pub comes : WordsCome knows o config sink answer
   pub told : Tells print.before print.now print.faults_before print.faults answer code

@@ -5,13 +5,13 @@ ghost use Rattle.corr_model.specs.Plans.{Fits};
 ghost use Rattle.corr_words.specs.declared.command.Command.TheVariants.{Correlate};
 ghost use Rattle.corr_settings.specs.declared.settings.Settings.{Settings};
 ghost use Rattle.corr_serial.specs.Sources.{AreBegun, AreSameFrom, KeepsEach};
-ghost use Rattle.corr_serial.specs.Runs.{known};
 ghost use Rattle.corr_cli.specs.Said.{HasRun, form_of, needs_text};
 ghost use Rattle.corr_cli.specs.Says.{HasSaid};
 ghost use Rattle.corr_cli.specs.Placing.{IsAtOwn, AreAtOwn};
 ghost use Rattle.corr_cli.specs.Texts.{IsPrintable, code_of};
 ghost use Rattle.corr_cli.specs.Observed.{IsObserved};
 ghost use Rattle.corr_cli.specs.Runs.{Comes, IsOverBegun, RunsPlan};
+ghost use Rattle.corr_cli.specs.Seeing.{run_seen, sink_seen, sources_seen, text_seen};
 
 use crate::answer::Answer;
 use crate::begin::begin_all;
@@ -26,8 +26,8 @@ use std::alloc::Global;
 use std::sync::Wait;
 use std::thread::Threads;
 
-// All memory of a run in threads.
-fn shared<O: Observation>(alloc: Global, plan: &Plan) -> Result<Shared<O>, NoMemory>
+/// All memory of a run in threads.
+pub(crate) fn shared<O: Observation>(alloc: Global, plan: &Plan) -> Result<Shared<O>, NoMemory>
     requires fits { Fits plan.now }
     requires named { O.names ≡ true → plan.now ≡ O.plan }
     ensures { IfOk result (λ s. s.plan ≡ plan.now) }
@@ -68,27 +68,17 @@ pub(crate) fn answer_in_threads<
         → AreAtOwn (λ s. S.begun s.source) (λ s. S.at s.source) run.inputs sources.new }
     ensures at_sink { (run : Settings) → HasRun (map string_bytes words.now) (D.left settings.old) run
         → IsAtOwn (K.begun sink.new) (K.at sink.new) run.output }
-    ensures at_settings { (config : List ℕ) (serial : Bool) → form_of (map string_bytes words.now) ≡ Some (Correlate config serial)
+    ensures at_settings { (config : List ℕ) (serial : Bool)
+        → form_of (map string_bytes words.now) ≡ Some (Correlate config serial)
         → IsAtOwn (D.begun settings.new) (D.at settings.new) config }
     ensures begun_settings { code_of result ≡ 0 → needs_text (map string_bytes words.now) ≡ true
         → D.begun settings.new ≡ true }
     ensures printable { IsPrintable result }
     ensures comes { Comes (map string_bytes words.now)
-        (record {
-          knows = O.names;
-          gives = known O.names (λ s. S.gives s.source);
-          given = λ s. S.given s.source;
-          begun = λ s. S.begun s.source;
-          faults = λ s. S.faults s.source;
-          old = sources.old;
-          now = sources.new;
-          sent_before = K.sent sink.old;
-          sent = K.sent sink.new;
-          sink_faults_before = K.faults sink.old;
-          sink_faults = K.faults sink.new;
-          sink_begun = K.begun sink.new;
-        })
-        (record { text = D.left settings.old; faults_before = D.faults settings.old; faults = D.faults settings.new }) result }
+        (run_seen (sources_seen O.names (λ s. S.gives s.source) (λ s. S.given s.source)
+        (λ s. S.begun s.source) (λ s. S.faults s.source) sources.old sources.new)
+        (sink_seen K.sent K.begun K.at K.faults sink.old sink.new))
+        (text_seen D.left D.faults settings.old settings.new) result }
 {
     match said(alloc, words, settings) {
         Ok(asked) => run_asked::<O, S, K, G, R>(rt, gate, alloc, asked, sources, sink),
@@ -117,20 +107,9 @@ fn run_asked<
     ensures at_sink { IsAtOwn (K.begun sink.new) (K.at sink.new) asked.settings.output }
     ensures printable { IsPrintable result }
     ensures runs { RunsPlan asked.telling asked.settings.plan
-        (record {
-          knows = O.names;
-          gives = known O.names (λ s. S.gives s.source);
-          given = λ s. S.given s.source;
-          begun = λ s. S.begun s.source;
-          faults = λ s. S.faults s.source;
-          old = sources.old;
-          now = sources.new;
-          sent_before = K.sent sink.old;
-          sent = K.sent sink.new;
-          sink_faults_before = K.faults sink.old;
-          sink_faults = K.faults sink.new;
-          sink_begun = K.begun sink.new;
-        }) result }
+        (run_seen (sources_seen O.names (λ s. S.gives s.source) (λ s. S.given s.source)
+        (λ s. S.begun s.source) (λ s. S.faults s.source) sources.old sources.new)
+        (sink_seen K.sent K.begun K.at K.faults sink.old sink.new)) result }
 {
     match shared(alloc, &asked.settings.plan) {
         Ok(ready) => run_prepared::<O, S, K, G, R>(rt, gate, ready, &asked, sources, sink),
@@ -167,20 +146,9 @@ fn run_prepared<
     ensures at_sink { IsAtOwn (K.begun sink.new) (K.at sink.new) asked.now.settings.output }
     ensures printable { IsPrintable result }
     ensures runs { RunsPlan asked.now.telling ready.plan
-        (record {
-          knows = O.names;
-          gives = known O.names (λ s. S.gives s.source);
-          given = λ s. S.given s.source;
-          begun = λ s. S.begun s.source;
-          faults = λ s. S.faults s.source;
-          old = sources.old;
-          now = sources.new;
-          sent_before = K.sent sink.old;
-          sent = K.sent sink.new;
-          sink_faults_before = K.faults sink.old;
-          sink_faults = K.faults sink.new;
-          sink_begun = K.begun sink.new;
-        }) result }
+        (run_seen (sources_seen O.names (λ s. S.gives s.source) (λ s. S.given s.source)
+        (λ s. S.begun s.source) (λ s. S.faults s.source) sources.old sources.new)
+        (sink_seen K.sent K.begun K.at K.faults sink.old sink.new)) result }
 {
     let settings = &asked.settings;
     if let Err(antenna) = begin_all::<O, Seat<O, S>>(sources, settings.inputs.as_slice()) {
@@ -197,8 +165,8 @@ fn run_prepared<
     )
 }
 
-// Begins the sink at the place, correlates and sends.
-fn run_begun<
+/// Begins the sink at the place, correlates and sends.
+pub(crate) fn run_begun<
     O: Observation + Send + Sync,
     S: PacketSource<O> + Send,
     K: PacketSink,
@@ -225,20 +193,9 @@ fn run_begun<
     ensures printable { IsPrintable result }
     ensures over { IsOverBegun result }
     ensures runs { RunsPlan telling ready.plan
-        (record {
-          knows = O.names;
-          gives = known O.names (λ s. S.gives s.source);
-          given = λ s. S.given s.source;
-          begun = λ s. S.begun s.source;
-          faults = λ s. S.faults s.source;
-          old = sources.old;
-          now = sources.new;
-          sent_before = K.sent sink.old;
-          sent = K.sent sink.new;
-          sink_faults_before = K.faults sink.old;
-          sink_faults = K.faults sink.new;
-          sink_begun = K.begun sink.new;
-        }) result }
+        (run_seen (sources_seen O.names (λ s. S.gives s.source) (λ s. S.given s.source)
+        (λ s. S.begun s.source) (λ s. S.faults s.source) sources.old sources.new)
+        (sink_seen K.sent K.begun K.at K.faults sink.old sink.new)) result }
 {
     match sink.begin(place) {
         Ok(()) => correlate::<O, S, K, G, R>(rt, gate, ready, telling, sources, sink),
@@ -274,20 +231,9 @@ fn correlate<
     ensures printable { IsPrintable result }
     ensures over { IsOverBegun result }
     ensures runs { RunsPlan telling ready.plan
-        (record {
-          knows = O.names;
-          gives = known O.names (λ s. S.gives s.source);
-          given = λ s. S.given s.source;
-          begun = λ s. S.begun s.source;
-          faults = λ s. S.faults s.source;
-          old = sources.old;
-          now = sources.new;
-          sent_before = K.sent sink.old;
-          sent = K.sent sink.new;
-          sink_faults_before = K.faults sink.old;
-          sink_faults = K.faults sink.new;
-          sink_begun = K.begun sink.new;
-        }) result }
+        (run_seen (sources_seen O.names (λ s. S.gives s.source) (λ s. S.given s.source)
+        (λ s. S.begun s.source) (λ s. S.faults s.source) sources.old sources.new)
+        (sink_seen K.sent K.begun K.at K.faults sink.old sink.new)) result }
 {
     let outcome = correlate_threads(rt, ready, sources, sink, gate);
     answer_of(telling, outcome)

@@ -12,6 +12,7 @@ mod said;
 mod simulated;
 mod threaded;
 mod tools;
+mod trial;
 
 pub use answer::Status;
 pub use report::no_memory;

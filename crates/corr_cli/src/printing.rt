@@ -4,6 +4,7 @@ ghost use Rattle.std.specs.Prelude.{◌≡◌, ℕ, true, false, []};
 ghost use Rattle.vis_read.specs.Standing.{StandsFor};
 ghost use Rattle.corr_cli.specs.Tools.{DecodeComes, DecodeWent, InspectComes, InspectWent, decode_code, inspect_code};
 ghost use Rattle.corr_cli.specs.Placing.{IsAtOwn};
+ghost use Rattle.corr_cli.specs.Seeing.{print_seen, source_seen};
 
 use crate::answer::{Answer, Status};
 use crate::report::tell;
@@ -22,21 +23,8 @@ pub(crate) fn run_inspect<O: Observation, S: PacketSource<O>, P: TextSink>(
 ) -> Status
     requires { S.begun source.old ≡ false }
     ensures comes { InspectComes
-        (record {
-          gives = S.gives source.old;
-          given_before = S.given source.old;
-          given = S.given source.new;
-          begun = S.begun source.new;
-          at = S.at source.new;
-          faults_before = S.faults source.old;
-          faults = S.faults source.new;
-        })
-        (record {
-          before = P.written print.old;
-          now = P.written print.new;
-          faults_before = P.faults print.old;
-          faults = P.faults print.new;
-        }) result.code }
+        (source_seen S.gives S.given S.begun S.at S.faults source.old source.new)
+        (print_seen P.written P.faults print.old print.new) result.code }
     ensures at { IsAtOwn (S.begun source.new) (S.at source.new) (0, from.now) }
 {
     match source.begin(0, from) {
@@ -52,21 +40,8 @@ fn inspect_begun<O: Observation, S: PacketSource<O>, P: TextSink>(
 ) -> Status
     requires { S.begun source.old ≡ true }
     ensures went { InspectWent
-        (record {
-          gives = S.gives source.old;
-          given_before = S.given source.old;
-          given = S.given source.new;
-          begun = S.begun source.new;
-          at = S.at source.new;
-          faults_before = S.faults source.old;
-          faults = S.faults source.new;
-        })
-        (record {
-          before = P.written print.old;
-          now = P.written print.new;
-          faults_before = P.faults print.old;
-          faults = P.faults print.new;
-        }) result.code }
+        (source_seen S.gives S.given S.begun S.at S.faults source.old source.new)
+        (print_seen P.written P.faults print.old print.new) result.code }
     ensures at { S.at source.new ≡ S.at source.old }
 {
     let how = inspect::<O, S, P>(source, print);
@@ -95,21 +70,8 @@ pub(crate) fn run_decode<O: Observation, S: PacketSource<O>, P: TextSink>(
 ) -> Status
     requires { S.begun source.old ≡ false }
     ensures comes { DecodeComes limit source.old source.new
-        (record {
-          gives = S.gives source.old;
-          given_before = S.given source.old;
-          given = S.given source.new;
-          begun = S.begun source.new;
-          at = S.at source.new;
-          faults_before = S.faults source.old;
-          faults = S.faults source.new;
-        })
-        (record {
-          before = P.written print.old;
-          now = P.written print.new;
-          faults_before = P.faults print.old;
-          faults = P.faults print.new;
-        }) result.code }
+        (source_seen S.gives S.given S.begun S.at S.faults source.old source.new)
+        (print_seen P.written P.faults print.old print.new) result.code }
     ensures at { IsAtOwn (S.begun source.new) (S.at source.new) (0, from.now) }
 {
     let Ok(mut reader) = Reader::new(alloc, limit) else {
@@ -130,21 +92,8 @@ fn decode_begun<O: Observation, S: PacketSource<O>, P: TextSink>(
     requires new { StandsFor reader.old [] }
     requires source { S.begun source.old ≡ true }
     ensures went { DecodeWent reader.old.live.limit
-        (record {
-          gives = S.gives source.old;
-          given_before = S.given source.old;
-          given = S.given source.new;
-          begun = S.begun source.new;
-          at = S.at source.new;
-          faults_before = S.faults source.old;
-          faults = S.faults source.new;
-        })
-        (record {
-          before = P.written print.old;
-          now = P.written print.new;
-          faults_before = P.faults print.old;
-          faults = P.faults print.new;
-        }) result.code }
+        (source_seen S.gives S.given S.begun S.at S.faults source.old source.new)
+        (print_seen P.written P.faults print.old print.new) result.code }
     ensures at { S.at source.new ≡ S.at source.old }
 {
     let how = decode::<O, S, P>(reader, source, print);

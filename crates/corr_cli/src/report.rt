@@ -18,7 +18,8 @@ use vis_send::Sent;
 /// only where it would be 0.
 pub fn tell<P: TextSink>(answer: &Answer, print: &mut P) -> Status
     requires { IsPrintable answer.now }
-    ensures { Tells (P.written print.old) (P.written print.new) (P.faults print.old) (P.faults print.new) answer.now result.code }
+    ensures { Tells (P.written print.old) (P.written print.new) (P.faults print.old) (P.faults print.new)
+        answer.now result.code }
 {
     let code = answer.code();
     match print_answer(answer, print) {
@@ -31,7 +32,8 @@ pub fn tell<P: TextSink>(answer: &Answer, print: &mut P) -> Status
 
 /// Prints that there is no memory, as a program does that could not even make its sources.
 pub fn no_memory<P: TextSink>(print: &mut P) -> Status
-    ensures { Tells (P.written print.old) (P.written print.new) (P.faults print.old) (P.faults print.new) Answer.NoMemory result.code }
+    ensures { Tells (P.written print.old) (P.written print.new) (P.faults print.old) (P.faults print.new)
+        Answer.NoMemory result.code }
 {
     tell(&Answer::NoMemory, print)
 }
@@ -137,7 +139,8 @@ fn print_streams<P: TextSink>(
     print: &mut P,
 ) -> Result<(), Failed>
     requires { HaveEnded reports.now }
-    ensures written { Writes (P.written print.old) (P.written print.new) result (streams_text 0 reports.now ++ later_text fault) }
+    ensures written { Writes (P.written print.old) (P.written print.new) result
+        (streams_text 0 reports.now ++ later_text fault) }
     ensures cause { HasCause (P.faults print.old) (P.faults print.new) result }
 {
     for antenna in 0..reports.len() {

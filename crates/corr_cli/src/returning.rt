@@ -16,6 +16,7 @@ ghost use Rattle.corr_words.specs.Forms.{form};
 ghost use Rattle.corr_cli.specs.Tools.{ToolRan, names_tool};
 ghost use Rattle.corr_cli.specs.Runs.{AppendsPackets, Comes, FaultOfSource, IsOverBegun, IsRefusedAs, IsUntouched, IsWhole, RanAs, RefusedCode, RunsPlan};
 ghost use Rattle.corr_cli.specs.Simulating.{AreRefusedFor, IsRefusedFor, SimulatedRan, Simulates, names_simulated, reads_settings, strings_of};
+ghost use Rattle.corr_cli.specs.Seeing.{config_seen, print_seen, run_seen, sink_seen, source_seen, sources_seen, text_seen};
 
 use crate::answer::{Answer, Status};
 use crate::begin::begin_all;
@@ -52,20 +53,23 @@ pub fn run_returning<O: Observation, S: PacketSource<O>, K: PacketSink, P: TextS
 
     // What stays.
     ensures length { length sources.new ≡ length sources.old }
-    ensures settings_source { reads_settings (map string_bytes words.now) ≡ false → settings.new ≡ settings.old }
+    ensures settings_source { reads_settings (map string_bytes words.now) ≡ false
+        → settings.new ≡ settings.old }
     ensures unused { (run : Settings) → HasRun (map string_bytes words.now) (D.left settings.old) run
         → AreSameFrom run.plan.antennas sources.old sources.new }
     ensures no_memory { result.code ≡ 5
         → IsUntouched sources.old sources.new (K.begun sink.new) (K.sent sink.old) (K.sent sink.new) }
 
     // The correlation theorem: what is sent, what is taken, and what is begun.
-    ensures output { (run : Settings) (lists : List (List (List ℕ))) → HasRun (map string_bytes words.now) (D.left settings.old) run
+    ensures output { (run : Settings) (lists : List (List (List ℕ)))
+        → HasRun (map string_bytes words.now) (D.left settings.old) run
         → AreGiven run.plan S.gives S.given sources.old lists → IsWhole result.code S.begun run.plan sources.new
         → Appended (K.sent sink.old) (output run.plan (list_of lists)) (K.sent sink.new) }
     ensures taken { (run : Settings) → HasRun (map string_bytes words.now) (D.left settings.old) run
         → IsWhole result.code S.begun run.plan sources.new
         → GaveTaken run.plan S.gives S.given sources.old sources.new }
-    ensures front { (run : Settings) (lists : List (List (List ℕ))) → HasRun (map string_bytes words.now) (D.left settings.old) run
+    ensures front { (run : Settings) (lists : List (List (List ℕ)))
+        → HasRun (map string_bytes words.now) (D.left settings.old) run
         → AreGiven run.plan S.gives S.given sources.old lists → result.code ≡ 4
         → AppendsPackets (K.sent sink.old) (K.sent sink.new) (output run.plan (list_of lists)) }
     ensures begun { (run : Settings) → HasRun (map string_bytes words.now) (D.left settings.old) run
@@ -75,27 +79,35 @@ pub fn run_returning<O: Observation, S: PacketSource<O>, K: PacketSink, P: TextS
         → AreAtOwn S.begun S.at run.inputs sources.new }
     ensures at_sink { (run : Settings) → HasRun (map string_bytes words.now) (D.left settings.old) run
         → IsAtOwn (K.begun sink.new) (K.at sink.new) run.output }
-    ensures at_settings { (config : List ℕ) (serial : Bool) → form_of (map string_bytes words.now) ≡ Some (Correlate config serial)
+    ensures at_settings { (config : List ℕ) (serial : Bool)
+        → form_of (map string_bytes words.now) ≡ Some (Correlate config serial)
         → IsAtOwn (D.begun settings.new) (D.at settings.new) config }
-    ensures begun_settings { (result.code ≡ 0) ⊎ (result.code ≡ 6) → needs_text (map string_bytes words.now) ≡ true
+    ensures begun_settings { (result.code ≡ 0) ⊎ (result.code ≡ 6)
+        → needs_text (map string_bytes words.now) ≡ true
         → D.begun settings.new ≡ true }
 
     // The same of `trial` and `simulate`, over simulated inputs; no source is used.
-    ensures simulated_output { (command : Command) (run : Settings) → Simulates (map string_bytes words.now) (D.left settings.old) command run
-        → (result.code ≡ 0) ⊎ (result.code ≡ 6) → Appended (K.sent sink.old) (strings_of command run) (K.sent sink.new) }
-    ensures simulated_front { (command : Command) (run : Settings) → Simulates (map string_bytes words.now) (D.left settings.old) command run
+    ensures simulated_output { (command : Command) (run : Settings)
+        → Simulates (map string_bytes words.now) (D.left settings.old) command run
+        → (result.code ≡ 0) ⊎ (result.code ≡ 6)
+        → Appended (K.sent sink.old) (strings_of command run) (K.sent sink.new) }
+    ensures simulated_front { (command : Command) (run : Settings)
+        → Simulates (map string_bytes words.now) (D.left settings.old) command run
         → result.code ≡ 4 → AppendsPackets (K.sent sink.old) (K.sent sink.new) (strings_of command run) }
-    ensures simulated_sources { names_simulated (map string_bytes words.now) ≡ true → sources.new ≡ sources.old }
+    ensures simulated_sources { names_simulated (map string_bytes words.now) ≡ true
+        → sources.new ≡ sources.old }
 
     // The causes of the statuses.
     ensures usage { (result.code ≡ 1) ↔ IsNone (form (map string_bytes words.now)) }
     ensures settings { result.code ≡ 2 → IsRefusedAs (map string_bytes words.now) (D.left settings.old)
         ⊎ IsRefusedFor (map string_bytes words.now) (D.left settings.old) }
-    ensures refused { AreRefused (map string_bytes words.now) (D.left settings.old) → RefusedCode (map string_bytes words.now) result.code }
+    ensures refused { AreRefused (map string_bytes words.now) (D.left settings.old)
+        → RefusedCode (map string_bytes words.now) result.code }
     ensures simulated_refused { AreRefusedFor (map string_bytes words.now) (D.left settings.old)
         → (result.code ≡ 2) ⊎ ((result.code ≡ 5) ⊎ (result.code ≡ 8)) }
     ensures settings_fault { result.code ≡ 8 → Rises (D.faults settings.old) (D.faults settings.new) }
-    ensures source_fault { (run : Settings) → HasRun (map string_bytes words.now) (D.left settings.old) run → result.code ≡ 3
+    ensures source_fault { (run : Settings) → HasRun (map string_bytes words.now) (D.left settings.old) run
+        → result.code ≡ 3
         → FaultOfSource run.plan S.begun S.faults sources.old sources.new (K.sent sink.old) (K.sent sink.new) }
     ensures sink_fault { result.code ≡ 4 → Rises (K.faults sink.old) (K.faults sink.new) }
     ensures print_fault { result.code ≡ 6 → Rises (P.faults print.old) (P.faults print.new) }
@@ -108,30 +120,20 @@ pub fn run_returning<O: Observation, S: PacketSource<O>, K: PacketSink, P: TextS
         → (Rose (P.faults print.old) (P.faults print.new) → ⊥)
         → (Rose (D.faults settings.old) (D.faults settings.new) → ⊥)
         → (result.code ≡ 0) ⊎ (result.code ≡ 5) }
-    ensures simulated_whole { (command : Command) (run : Settings) → Simulates (map string_bytes words.now) (D.left settings.old) command run
+    ensures simulated_whole { (command : Command) (run : Settings)
+        → Simulates (map string_bytes words.now) (D.left settings.old) command run
         → (Rose (K.faults sink.old) (K.faults sink.new) → ⊥)
         → (Rose (P.faults print.old) (P.faults print.new) → ⊥)
         → (Rose (D.faults settings.old) (D.faults settings.new) → ⊥)
         → (result.code ≡ 0) ⊎ (result.code ≡ 5) }
 
     // The answer that the run came to, with all that is known of it, and its text.
-    ensures ran { names_tool (map string_bytes words.now) ≡ false → names_simulated (map string_bytes words.now) ≡ false
+    ensures ran { names_tool (map string_bytes words.now) ≡ false
+        → names_simulated (map string_bytes words.now) ≡ false
         → RanAs (map string_bytes words.now)
-        (record {
-          knows = true;
-          gives = S.gives;
-          given = S.given;
-          begun = S.begun;
-          faults = S.faults;
-          old = sources.old;
-          now = sources.new;
-          sent_before = K.sent sink.old;
-          sent = K.sent sink.new;
-          sink_faults_before = K.faults sink.old;
-          sink_faults = K.faults sink.new;
-          sink_begun = K.begun sink.new;
-        })
-        (record { text = D.left settings.old; faults_before = D.faults settings.old; faults = D.faults settings.new })
+        (run_seen (sources_seen true S.gives S.given S.begun S.faults sources.old sources.new)
+        (sink_seen K.sent K.begun K.at K.faults sink.old sink.new))
+        (text_seen D.left D.faults settings.old settings.new)
         (P.written print.old) (P.written print.new) (P.faults print.old) (P.faults print.new) result.code }
 
     // The tools: what `relay`, `inspect` and `decode` come to over the first source, with their text.
@@ -139,55 +141,18 @@ pub fn run_returning<O: Observation, S: PacketSource<O>, K: PacketSink, P: TextS
         → (first : S) → first ≡ slice_index_or sources.old 0 first
         → (now : S) → now ≡ slice_index_or sources.new 0 now
         → ToolRan (form (map string_bytes words.now)) first now
-        (record {
-          gives = S.gives first;
-          given_before = S.given first;
-          given = S.given now;
-          begun = S.begun now;
-          at = S.at now;
-          faults_before = S.faults first;
-          faults = S.faults now;
-        })
-        (record {
-          sent_before = K.sent sink.old;
-          sent = K.sent sink.new;
-          begun = K.begun sink.new;
-          at = K.at sink.new;
-          faults_before = K.faults sink.old;
-          faults = K.faults sink.new;
-        })
-        (record {
-          before = P.written print.old;
-          now = P.written print.new;
-          faults_before = P.faults print.old;
-          faults = P.faults print.new;
-        }) result.code }
-    ensures tool_sources { names_tool (map string_bytes words.now) ≡ true → AreSameFrom 1 sources.old sources.new }
+        (source_seen S.gives S.given S.begun S.at S.faults first now)
+        (sink_seen K.sent K.begun K.at K.faults sink.old sink.new)
+        (print_seen P.written P.faults print.old print.new) result.code }
+    ensures tool_sources { names_tool (map string_bytes words.now) ≡ true
+        → AreSameFrom 1 sources.old sources.new }
 
     // Simulated inputs: what `trial` and `simulate` come to, with their text.
     ensures simulated { names_simulated (map string_bytes words.now) ≡ true
-        → SimulatedRan (form (map string_bytes words.now))
-        (record {
-          text = D.left settings.old;
-          begun = D.begun settings.new;
-          at = D.at settings.new;
-          faults_before = D.faults settings.old;
-          faults = D.faults settings.new;
-        })
-        (record {
-          sent_before = K.sent sink.old;
-          sent = K.sent sink.new;
-          begun = K.begun sink.new;
-          at = K.at sink.new;
-          faults_before = K.faults sink.old;
-          faults = K.faults sink.new;
-        })
-        (record {
-          before = P.written print.old;
-          now = P.written print.new;
-          faults_before = P.faults print.old;
-          faults = P.faults print.new;
-        }) result.code }
+        → SimulatedRan true (form (map string_bytes words.now))
+        (config_seen D.left D.begun D.at D.faults settings.old settings.new)
+        (sink_seen K.sent K.begun K.at K.faults sink.old sink.new)
+        (print_seen P.written P.faults print.old print.new) result.code }
 {
     if names_tool(words) {
         return run_tool::<O, S, K, P>(alloc, words, &mut sources[0], sink, print);
@@ -221,27 +186,16 @@ fn answer<O: Observation, S: PacketSource<O>, K: PacketSink, D: TextSource>(
         → AreAtOwn S.begun S.at run.inputs sources.new }
     ensures at_sink { (run : Settings) → HasRun (map string_bytes words.now) (D.left settings.old) run
         → IsAtOwn (K.begun sink.new) (K.at sink.new) run.output }
-    ensures at_settings { (config : List ℕ) (serial : Bool) → form_of (map string_bytes words.now) ≡ Some (Correlate config serial)
+    ensures at_settings { (config : List ℕ) (serial : Bool)
+        → form_of (map string_bytes words.now) ≡ Some (Correlate config serial)
         → IsAtOwn (D.begun settings.new) (D.at settings.new) config }
     ensures begun_settings { code_of result ≡ 0 → needs_text (map string_bytes words.now) ≡ true
         → D.begun settings.new ≡ true }
     ensures printable { IsPrintable result }
     ensures comes { Comes (map string_bytes words.now)
-        (record {
-          knows = true;
-          gives = S.gives;
-          given = S.given;
-          begun = S.begun;
-          faults = S.faults;
-          old = sources.old;
-          now = sources.new;
-          sent_before = K.sent sink.old;
-          sent = K.sent sink.new;
-          sink_faults_before = K.faults sink.old;
-          sink_faults = K.faults sink.new;
-          sink_begun = K.begun sink.new;
-        })
-        (record { text = D.left settings.old; faults_before = D.faults settings.old; faults = D.faults settings.new }) result }
+        (run_seen (sources_seen true S.gives S.given S.begun S.faults sources.old sources.new)
+        (sink_seen K.sent K.begun K.at K.faults sink.old sink.new))
+        (text_seen D.left D.faults settings.old settings.new) result }
 {
     match said(alloc, words, settings) {
         Ok(asked) => run_asked::<O, S, K>(alloc, asked, sources, sink),
@@ -267,20 +221,8 @@ fn run_asked<O: Observation, S: PacketSource<O>, K: PacketSink>(
     ensures at_sink { IsAtOwn (K.begun sink.new) (K.at sink.new) asked.settings.output }
     ensures printable { IsPrintable result }
     ensures runs { RunsPlan asked.telling asked.settings.plan
-        (record {
-          knows = true;
-          gives = S.gives;
-          given = S.given;
-          begun = S.begun;
-          faults = S.faults;
-          old = sources.old;
-          now = sources.new;
-          sent_before = K.sent sink.old;
-          sent = K.sent sink.new;
-          sink_faults_before = K.faults sink.old;
-          sink_faults = K.faults sink.new;
-          sink_begun = K.begun sink.new;
-        }) result }
+        (run_seen (sources_seen true S.gives S.given S.begun S.faults sources.old sources.new)
+        (sink_seen K.sent K.begun K.at K.faults sink.old sink.new)) result }
 {
     match prepare(alloc, &asked.settings.plan) {
         Ok(prepared) => run_prepared::<O, S, K>(prepared, &asked, sources, sink),
@@ -307,20 +249,8 @@ fn run_prepared<O: Observation, S: PacketSource<O>, K: PacketSink>(
     ensures at_sink { IsAtOwn (K.begun sink.new) (K.at sink.new) asked.now.settings.output }
     ensures printable { IsPrintable result }
     ensures runs { RunsPlan asked.now.telling prepared.plan
-        (record {
-          knows = true;
-          gives = S.gives;
-          given = S.given;
-          begun = S.begun;
-          faults = S.faults;
-          old = sources.old;
-          now = sources.new;
-          sent_before = K.sent sink.old;
-          sent = K.sent sink.new;
-          sink_faults_before = K.faults sink.old;
-          sink_faults = K.faults sink.new;
-          sink_begun = K.begun sink.new;
-        }) result }
+        (run_seen (sources_seen true S.gives S.given S.begun S.faults sources.old sources.new)
+        (sink_seen K.sent K.begun K.at K.faults sink.old sink.new)) result }
 {
     let settings = &asked.settings;
     if let Err(antenna) = begin_all::<O, S>(sources, settings.inputs.as_slice()) {
@@ -347,20 +277,8 @@ pub(crate) fn run_begun<O: Observation, S: PacketSource<O>, K: PacketSink>(
     ensures printable { IsPrintable result }
     ensures over { IsOverBegun result }
     ensures runs { RunsPlan telling prepared.plan
-        (record {
-          knows = true;
-          gives = S.gives;
-          given = S.given;
-          begun = S.begun;
-          faults = S.faults;
-          old = sources.old;
-          now = sources.new;
-          sent_before = K.sent sink.old;
-          sent = K.sent sink.new;
-          sink_faults_before = K.faults sink.old;
-          sink_faults = K.faults sink.new;
-          sink_begun = K.begun sink.new;
-        }) result }
+        (run_seen (sources_seen true S.gives S.given S.begun S.faults sources.old sources.new)
+        (sink_seen K.sent K.begun K.at K.faults sink.old sink.new)) result }
 {
     match sink.begin(place) {
         Ok(()) => correlate::<O, S, K>(prepared, telling, sources, sink),
@@ -386,20 +304,8 @@ fn correlate<O: Observation, S: PacketSource<O>, K: PacketSink>(
     ensures printable { IsPrintable result }
     ensures over { IsOverBegun result }
     ensures runs { RunsPlan telling prepared.plan
-        (record {
-          knows = true;
-          gives = S.gives;
-          given = S.given;
-          begun = S.begun;
-          faults = S.faults;
-          old = sources.old;
-          now = sources.new;
-          sent_before = K.sent sink.old;
-          sent = K.sent sink.new;
-          sink_faults_before = K.faults sink.old;
-          sink_faults = K.faults sink.new;
-          sink_begun = K.begun sink.new;
-        }) result }
+        (run_seen (sources_seen true S.gives S.given S.begun S.faults sources.old sources.new)
+        (sink_seen K.sent K.begun K.at K.faults sink.old sink.new)) result }
 {
     let outcome = correlate_serial::<O, S, K>(prepared, sources, sink);
     answer_of(telling, outcome)

@@ -46,9 +46,11 @@ pub fn said<D: TextSource>(alloc: Global, words: &[String], text: &mut D) -> Res
     ensures fits { IfOk result (λ a. Fits a.settings.plan) }
     ensures inputs { IfOk result (λ a. length a.settings.inputs ≡ a.settings.plan.antennas) }
     ensures text { needs_text (map string_bytes words.now) ≡ false → text.new ≡ text.old }
-    ensures at { (config : List ℕ) (serial : Bool) → form_of (map string_bytes words.now) ≡ Some (Correlate config serial)
+    ensures at { (config : List ℕ) (serial : Bool)
+        → form_of (map string_bytes words.now) ≡ Some (Correlate config serial)
         → IsAtOwn (D.begun text.new) (D.at text.new) config }
-    ensures begun { IfOk result (λ a. needs_text (map string_bytes words.now) ≡ true → D.begun text.new ≡ true) }
+    ensures begun { IfOk result (λ a. needs_text (map string_bytes words.now) ≡ true
+        → D.begun text.new ≡ true) }
     ensures stops { IfErr result IsNotDone }
     ensures cause { SaysCause (D.faults text.old) (D.faults text.new) result }
 {
@@ -68,9 +70,11 @@ fn said_by<D: TextSource>(alloc: Global, words: &[String], text: &mut D) -> Resu
     ensures fits { IfOk result (λ a. Fits a.settings.plan) }
     ensures inputs { IfOk result (λ a. length a.settings.inputs ≡ a.settings.plan.antennas) }
     ensures text { needs_text (map string_bytes words.now) ≡ false → text.new ≡ text.old }
-    ensures at { (config : List ℕ) (serial : Bool) → form_of (map string_bytes words.now) ≡ Some (Correlate config serial)
+    ensures at { (config : List ℕ) (serial : Bool)
+        → form_of (map string_bytes words.now) ≡ Some (Correlate config serial)
         → IsAtOwn (D.begun text.new) (D.at text.new) config }
-    ensures begun { IfOk result (λ a. needs_text (map string_bytes words.now) ≡ true → D.begun text.new ≡ true) }
+    ensures begun { IfOk result (λ a. needs_text (map string_bytes words.now) ≡ true
+        → D.begun text.new ≡ true) }
     ensures stops { IfErr result IsNotDone }
     ensures cause { SaysCause (D.faults text.old) (D.faults text.new) result }
 {
@@ -160,7 +164,8 @@ pub(crate) fn said_text<D: TextSource>(
     text: &mut D,
 ) -> Result<Asked, Answer>
     requires { D.begun text.old ≡ false }
-    ensures says { (bytes : List ℕ) → D.left text.old ≡ Some bytes → SaysText (settings bytes) Telling.Summary result }
+    ensures says { (bytes : List ℕ) → D.left text.old ≡ Some bytes
+        → SaysText (settings bytes) Telling.Summary result }
     ensures telling { IfOk result (λ a. a.telling ≡ Telling.Summary) }
     ensures answers { IfErr result IsOfText }
     ensures begun { IfOk result (λ a. D.begun text.new ≡ true) }

@@ -10,6 +10,7 @@ ghost use Rattle.ant_sim.specs.Blocks.{rest_of};
 ghost use Rattle.corr_cli.specs.Placing.{IsAtOwn};
 ghost use Rattle.corr_cli.specs.Texts.{IsPrintable};
 ghost use Rattle.corr_cli.specs.Simulating.{AreSimulated, ComesTo, IsOfSimulated, NeverFails, RunsFor, SendsList, SimulatedRan, WordsCome, answer_to, config_of, names_simulated};
+ghost use Rattle.corr_cli.specs.Seeing.{config_seen, print_seen, sink_seen};
 
 use crate::answer::{Answer, Status};
 use crate::report::tell;
@@ -20,6 +21,7 @@ use corr_model::{Observation, Plan};
 use corr_serial::prepare;
 use corr_settings::{Settings, antenna_refusal};
 use corr_site::{NoMemory, PacketSink, Place, Text, TextSink, TextSource};
+use corr_threads::Seat;
 use corr_tools::{Relayed, relay};
 use corr_words::{Command, WordRefusal, read as read_words};
 use std::alloc::Global;
@@ -46,28 +48,10 @@ pub(crate) fn run_simulated<O: Observation, K: PacketSink, P: TextSink, D: TextS
     requires settings { D.begun settings.old ≡ false }
     requires sink { K.begun sink.old ≡ false }
     ensures unread { form (map string_bytes words.now) ≡ None → settings.new ≡ settings.old }
-    ensures ran { SimulatedRan (form (map string_bytes words.now))
-        (record {
-          text = D.left settings.old;
-          begun = D.begun settings.new;
-          at = D.at settings.new;
-          faults_before = D.faults settings.old;
-          faults = D.faults settings.new;
-        })
-        (record {
-          sent_before = K.sent sink.old;
-          sent = K.sent sink.new;
-          begun = K.begun sink.new;
-          at = K.at sink.new;
-          faults_before = K.faults sink.old;
-          faults = K.faults sink.new;
-        })
-        (record {
-          before = P.written print.old;
-          now = P.written print.new;
-          faults_before = P.faults print.old;
-          faults = P.faults print.new;
-        }) result.code }
+    ensures ran { SimulatedRan true (form (map string_bytes words.now))
+        (config_seen D.left D.begun D.at D.faults settings.old settings.new)
+        (sink_seen K.sent K.begun K.at K.faults sink.old sink.new)
+        (print_seen P.written P.faults print.old print.new) result.code }
 {
     tell(
         &words_answer::<O, K, D>(alloc, words, settings, sink),
@@ -87,22 +71,9 @@ fn words_answer<O: Observation, K: PacketSink, D: TextSource>(
     requires sink { K.begun sink.old ≡ false }
     ensures printable { IsPrintable result }
     ensures unread { form (map string_bytes words.now) ≡ None → settings.new ≡ settings.old }
-    ensures comes { WordsCome (form (map string_bytes words.now))
-        (record {
-          text = D.left settings.old;
-          begun = D.begun settings.new;
-          at = D.at settings.new;
-          faults_before = D.faults settings.old;
-          faults = D.faults settings.new;
-        })
-        (record {
-          sent_before = K.sent sink.old;
-          sent = K.sent sink.new;
-          begun = K.begun sink.new;
-          at = K.at sink.new;
-          faults_before = K.faults sink.old;
-          faults = K.faults sink.new;
-        }) result }
+    ensures comes { WordsCome true (form (map string_bytes words.now))
+        (config_seen D.left D.begun D.at D.faults settings.old settings.new)
+        (sink_seen K.sent K.begun K.at K.faults sink.old sink.new) result }
 {
     match read_words(alloc, words) {
         Ok(command) => command_answer::<O, K, D>(alloc, &command, settings, sink),
@@ -123,22 +94,9 @@ fn command_answer<O: Observation, K: PacketSink, D: TextSource>(
     requires sink { K.begun sink.old ≡ false }
     ensures printable { IsPrintable result }
     ensures at { IsAtOwn (D.begun settings.new) (D.at settings.new) (config_of command.now) }
-    ensures comes { ComesTo command.now
-        (record {
-          text = D.left settings.old;
-          begun = D.begun settings.new;
-          at = D.at settings.new;
-          faults_before = D.faults settings.old;
-          faults = D.faults settings.new;
-        })
-        (record {
-          sent_before = K.sent sink.old;
-          sent = K.sent sink.new;
-          begun = K.begun sink.new;
-          at = K.at sink.new;
-          faults_before = K.faults sink.old;
-          faults = K.faults sink.new;
-        }) result }
+    ensures comes { ComesTo true command.now
+        (config_seen D.left D.begun D.at D.faults settings.old settings.new)
+        (sink_seen K.sent K.begun K.at K.faults sink.old sink.new) result }
 {
     match command {
         Command::Trial(config, seed, _) => {
@@ -167,22 +125,9 @@ fn trial<O: Observation, K: PacketSink, D: TextSource>(
     requires sink { K.begun sink.old ≡ false }
     ensures printable { IsPrintable result }
     ensures at { IsAtOwn (D.begun settings.new) (D.at settings.new) config.now }
-    ensures comes { (serial : Bool) → ComesTo (Trial config.now seed serial)
-        (record {
-          text = D.left settings.old;
-          begun = D.begun settings.new;
-          at = D.at settings.new;
-          faults_before = D.faults settings.old;
-          faults = D.faults settings.new;
-        })
-        (record {
-          sent_before = K.sent sink.old;
-          sent = K.sent sink.new;
-          begun = K.begun sink.new;
-          at = K.at sink.new;
-          faults_before = K.faults sink.old;
-          faults = K.faults sink.new;
-        }) result }
+    ensures comes { (serial : Bool) → ComesTo true (Trial config.now seed serial)
+        (config_seen D.left D.begun D.at D.faults settings.old settings.new)
+        (sink_seen K.sent K.begun K.at K.faults sink.old sink.new) result }
 {
     match said_text(alloc, config, settings) {
         Ok(asked) => correlate_simulated::<O, K>(alloc, &asked.settings, seed, sink),
@@ -200,46 +145,40 @@ fn correlate_simulated<O: Observation, K: PacketSink>(
     requires fits { Fits settings.now.plan }
     requires sink { K.begun sink.old ≡ false }
     ensures printable { IsPrintable result }
-    ensures runs { (config : List ℕ) (serial : Bool) → RunsFor (Trial config seed serial) settings.now
-        (record {
-          sent_before = K.sent sink.old;
-          sent = K.sent sink.new;
-          begun = K.begun sink.new;
-          at = K.at sink.new;
-          faults_before = K.faults sink.old;
-          faults = K.faults sink.new;
-        }) result }
+    ensures runs { (config : List ℕ) (serial : Bool) → RunsFor true (Trial config seed serial) settings.now
+        (sink_seen K.sent K.begun K.at K.faults sink.old sink.new) result }
 {
     let Ok(prepared) = prepare(alloc, &settings.plan) else {
         return Answer::NoMemory;
     };
-    match simulated_sources::<O>(alloc, &settings.plan, seed) {
-        Ok(mut sources) => run_begun::<O, SimSource<O>, K>(
+    match simulated_seats::<O>(alloc, &settings.plan, seed) {
+        Ok(mut seats) => run_begun::<O, Seat<O, SimSource<O>>, K>(
             prepared,
             &settings.output,
             Telling::Summary,
-            &mut sources,
+            &mut seats,
             sink,
         ),
         Err(_) => Answer::NoMemory,
     }
 }
 
-// The simulated input of each antenna.
-fn simulated_sources<O: Observation>(
+/// A seat for each antenna, with its simulated input as the source.
+pub(crate) fn simulated_seats<O: Observation>(
     alloc: Global,
     plan: &Plan,
     seed: u64,
-) -> Result<Vec<SimSource<O>>, NoMemory>
+) -> Result<Vec<Seat<O, SimSource<O>>>, NoMemory>
     requires { Fits plan.now }
-    ensures { IfOk result (λ sources. AreSimulated plan.now seed sources.items) }
+    ensures { IfOk result (λ seats. AreSimulated plan.now seed (λ s. s.source) seats.items) }
 {
-    let mut sources = Vec::with_capacity(alloc, plan.antennas as usize)?;
+    let mut seats = Vec::with_capacity(alloc, plan.antennas as usize)?;
     for antenna in 0..plan.antennas {
         let source = SimSource::new(alloc, plan, seed, antenna)?;
-        sources.push_reserved(source);
+        let seat = Seat::new(source);
+        seats.push_reserved(seat);
     }
-    Ok(sources)
+    Ok(seats)
 }
 
 // Reads the settings, and sends the simulated input of an antenna.
@@ -256,22 +195,9 @@ fn simulate<O: Observation, K: PacketSink, D: TextSource>(
     requires sink { K.begun sink.old ≡ false }
     ensures printable { IsPrintable result }
     ensures at { IsAtOwn (D.begun settings.new) (D.at settings.new) config.now }
-    ensures comes { ComesTo (Simulate config.now seed antenna out.now)
-        (record {
-          text = D.left settings.old;
-          begun = D.begun settings.new;
-          at = D.at settings.new;
-          faults_before = D.faults settings.old;
-          faults = D.faults settings.new;
-        })
-        (record {
-          sent_before = K.sent sink.old;
-          sent = K.sent sink.new;
-          begun = K.begun sink.new;
-          at = K.at sink.new;
-          faults_before = K.faults sink.old;
-          faults = K.faults sink.new;
-        }) result }
+    ensures comes { ComesTo true (Simulate config.now seed antenna out.now)
+        (config_seen D.left D.begun D.at D.faults settings.old settings.new)
+        (sink_seen K.sent K.begun K.at K.faults sink.old sink.new) result }
 {
     match said_text(alloc, config, settings) {
         Ok(asked) => send_antenna::<O, K>(alloc, &asked.settings.plan, seed, antenna, out, sink),
@@ -292,15 +218,8 @@ fn send_antenna<O: Observation, K: PacketSink>(
     requires sink { K.begun sink.old ≡ false }
     ensures printable { IsPrintable result }
     ensures runs { (config : List ℕ) (run : Settings) → run.plan ≡ plan.now
-        → RunsFor (Simulate config seed antenna out.now) run
-        (record {
-          sent_before = K.sent sink.old;
-          sent = K.sent sink.new;
-          begun = K.begun sink.new;
-          at = K.at sink.new;
-          faults_before = K.faults sink.old;
-          faults = K.faults sink.new;
-        }) result }
+        → RunsFor true (Simulate config seed antenna out.now) run
+        (sink_seen K.sent K.begun K.at K.faults sink.old sink.new) result }
 {
     match antenna_refusal(plan, antenna) {
         Some(refusal) => Answer::Settings(refusal),
@@ -322,14 +241,7 @@ fn send_input<O: Observation, K: PacketSink>(
     requires sink { K.begun sink.old ≡ false }
     ensures at { IsAtOwn (K.begun sink.new) (K.at sink.new) out.now }
     ensures sends { SendsList (simulated plan.now seed antenna)
-        (record {
-          sent_before = K.sent sink.old;
-          sent = K.sent sink.new;
-          begun = K.begun sink.new;
-          at = K.at sink.new;
-          faults_before = K.faults sink.old;
-          faults = K.faults sink.new;
-        }) result }
+        (sink_seen K.sent K.begun K.at K.faults sink.old sink.new) result }
 {
     match SimSource::<O>::new(alloc, plan, seed, antenna) {
         Ok(mut source) => send_all::<O, K>(&mut source, out, sink),
@@ -348,14 +260,7 @@ fn send_all<O: Observation, K: PacketSink>(
     requires sink { K.begun sink.old ≡ false }
     ensures at { IsAtOwn (K.begun sink.new) (K.at sink.new) out.now }
     ensures sends { SendsList (simulated source.old.plan source.old.seed source.old.antenna)
-        (record {
-          sent_before = K.sent sink.old;
-          sent = K.sent sink.new;
-          begun = K.begun sink.new;
-          at = K.at sink.new;
-          faults_before = K.faults sink.old;
-          faults = K.faults sink.new;
-        }) result }
+        (sink_seen K.sent K.begun K.at K.faults sink.old sink.new) result }
 {
     match sink.begin(out) {
         Ok(()) => answer_to(relay::<O, SimSource<O>, K>(source, sink, u64::MAX)),

@@ -8,19 +8,21 @@ ghost use Rattle.corr_words.specs.declared.command.Command.TheVariants.{Correlat
 ghost use Rattle.corr_words.specs.Forms.{form};
 ghost use Rattle.corr_settings.specs.declared.settings.Settings.{Settings};
 ghost use Rattle.corr_serial.specs.Sources.{AreBegun, AreSameFrom, KeepsEach};
-ghost use Rattle.corr_serial.specs.Runs.{AreGiven, GaveTaken, NoneRose, known, list_of};
+ghost use Rattle.corr_serial.specs.Runs.{AreGiven, GaveTaken, NoneRose, list_of};
 ghost use Rattle.corr_cli.specs.Said.{AreRefused, HasRun, form_of, needs_text};
 ghost use Rattle.corr_cli.specs.Placing.{IsAtOwn, AreAtOwn};
 ghost use Rattle.corr_cli.specs.Tools.{ToolRan, names_tool};
 ghost use Rattle.corr_cli.specs.Simulating.{AreRefusedFor, IsRefusedFor, SimulatedRan, Simulates, names_simulated, reads_settings, strings_of};
-ghost use Rattle.corr_cli.specs.Observed.{Observes, asks_threads, is_known};
+ghost use Rattle.corr_cli.specs.Observed.{Observes, ObservesTrial, asks_threads, asks_trial, is_known};
 ghost use Rattle.corr_cli.specs.Runs.{AppendsPackets, FaultOfSource, IsRefusedAs, IsUntouched, IsWhole, RanAs, RefusedCode};
+ghost use Rattle.corr_cli.specs.Seeing.{config_seen, print_seen, run_seen, sink_seen, source_seen, sources_seen, text_seen};
 
 use crate::answer::Status;
 use crate::in_threads::answer_in_threads;
 use crate::report::tell;
 use crate::returning::run_returning;
 use crate::simulated::names_simulated;
+use crate::trial::trial_in_threads;
 use corr_model::Observation;
 use corr_site::{Gate, PacketSink, PacketSource, TextSink, TextSource};
 use corr_threads::Seat;
@@ -30,14 +32,16 @@ use std::sync::Wait;
 use std::thread::Threads;
 
 /// Runs the command of the words as `run_returning` does, but for words that ask for threads, which
-/// are those of `correlate` without the flag: a thread receives each stream, as many workers as the plan has multiply, and the calling
-/// thread sends; without workers it multiplies too.
+/// are those of `correlate` and `trial` without the flag: a thread receives each stream, as many
+/// workers as the plan has multiply, and the calling thread sends; without workers it multiplies too.
 ///
 /// `theorem` is the correlation theorem for any schedule: where the observation names its lists,
 /// and the status is 0 or 6, or 3 with all of the plan's sources begun, exactly the output that the
 /// definitions give for the observation's plan and lists was appended to what the sink got,
-/// whatever order the threads take their steps in. An observation has no value when the program
-/// runs, so the same code runs for every one.
+/// whatever order the threads take their steps in. `trial_theorem` says the same of `trial`, where
+/// the observation's lists are the simulated inputs; with status 4 a front of that output was
+/// appended (`theorem_front`, `trial_front`). An observation has no value when the program runs, so
+/// the same code runs for every one.
 ///
 /// Where words ask for threads it is not promised that the call returns.
 pub fn run<
@@ -66,6 +70,9 @@ pub fn run<
         → is_some (form_of (map string_bytes words.now)) ≡ true
         → Observes O.plan (λ s. S.belongs s.source) (λ s. S.given s.source)
         (map string_bytes words.now) (D.left settings.old) sources.old }
+    requires simulated { O.names ≡ true → asks_trial (map string_bytes words.now) ≡ true
+        → is_some (form (map string_bytes words.now)) ≡ true
+        → ObservesTrial O.plan O.list (map string_bytes words.now) (D.left settings.old) }
 
     // What stays.
     ensures length { length sources.new ≡ length sources.old }
@@ -82,6 +89,18 @@ pub fn run<
         → is_some (form_of (map string_bytes words.now)) ≡ true
         → IsWhole result.code (λ s. S.begun s.source) O.plan sources.new
         → Appended (K.sent sink.old) (output O.plan O.list) (K.sent sink.new) }
+    ensures theorem_front { O.names ≡ true → asks_threads (map string_bytes words.now) ≡ true
+        → is_some (form_of (map string_bytes words.now)) ≡ true
+        → result.code ≡ 4
+        → AppendsPackets (K.sent sink.old) (K.sent sink.new) (output O.plan O.list) }
+    ensures trial_theorem { O.names ≡ true → asks_trial (map string_bytes words.now) ≡ true
+        → is_some (form (map string_bytes words.now)) ≡ true
+        → (result.code ≡ 0) ⊎ (result.code ≡ 6)
+        → Appended (K.sent sink.old) (output O.plan O.list) (K.sent sink.new) }
+    ensures trial_front { O.names ≡ true → asks_trial (map string_bytes words.now) ≡ true
+        → is_some (form (map string_bytes words.now)) ≡ true
+        → result.code ≡ 4
+        → AppendsPackets (K.sent sink.old) (K.sent sink.new) (output O.plan O.list) }
     ensures output { is_known O.names (map string_bytes words.now) ≡ true
         → (run : Settings) (lists : List (List (List ℕ)))
         → HasRun (map string_bytes words.now) (D.left settings.old) run
@@ -119,11 +138,13 @@ pub fn run<
         → needs_text (map string_bytes words.now) ≡ true → D.begun settings.new ≡ true }
 
     // The same of `trial` and `simulate`, over simulated inputs; no source is used.
-    ensures simulated_output { (command : Command) (run : Settings)
+    ensures simulated_output { is_known O.names (map string_bytes words.now) ≡ true
+        → (command : Command) (run : Settings)
         → Simulates (map string_bytes words.now) (D.left settings.old) command run
         → (result.code ≡ 0) ⊎ (result.code ≡ 6)
         → Appended (K.sent sink.old) (strings_of command run) (K.sent sink.new) }
-    ensures simulated_front { (command : Command) (run : Settings)
+    ensures simulated_front { is_known O.names (map string_bytes words.now) ≡ true
+        → (command : Command) (run : Settings)
         → Simulates (map string_bytes words.now) (D.left settings.old) command run
         → result.code ≡ 4
         → AppendsPackets (K.sent sink.old) (K.sent sink.new) (strings_of command run) }
@@ -170,25 +191,11 @@ pub fn run<
     // The answer that the run came to, with all that is known of it, and its text.
     ensures ran { names_tool (map string_bytes words.now) ≡ false
         → names_simulated (map string_bytes words.now) ≡ false → RanAs (map string_bytes words.now)
-        (record {
-          knows = is_known O.names (map string_bytes words.now);
-          gives = known (is_known O.names (map string_bytes words.now)) (λ s. S.gives s.source);
-          given = λ s. S.given s.source;
-          begun = λ s. S.begun s.source;
-          faults = λ s. S.faults s.source;
-          old = sources.old;
-          now = sources.new;
-          sent_before = K.sent sink.old;
-          sent = K.sent sink.new;
-          sink_faults_before = K.faults sink.old;
-          sink_faults = K.faults sink.new;
-          sink_begun = K.begun sink.new;
-        })
-        (record {
-          text = D.left settings.old;
-          faults_before = D.faults settings.old;
-          faults = D.faults settings.new;
-        })
+        (run_seen (sources_seen (is_known O.names (map string_bytes words.now))
+        (λ s. S.gives s.source) (λ s. S.given s.source)
+        (λ s. S.begun s.source) (λ s. S.faults s.source) sources.old sources.new)
+        (sink_seen K.sent K.begun K.at K.faults sink.old sink.new))
+        (text_seen D.left D.faults settings.old settings.new)
         (P.written print.old) (P.written print.new) (P.faults print.old) (P.faults print.new)
         result.code }
 
@@ -197,56 +204,19 @@ pub fn run<
         → (first : _) → first ≡ slice_index_or sources.old 0 first
         → (now : _) → now ≡ slice_index_or sources.new 0 now
         → ToolRan (form (map string_bytes words.now)) first now
-        (record {
-          gives = S.gives first.source;
-          given_before = S.given first.source;
-          given = S.given now.source;
-          begun = S.begun now.source;
-          at = S.at now.source;
-          faults_before = S.faults first.source;
-          faults = S.faults now.source;
-        })
-        (record {
-          sent_before = K.sent sink.old;
-          sent = K.sent sink.new;
-          begun = K.begun sink.new;
-          at = K.at sink.new;
-          faults_before = K.faults sink.old;
-          faults = K.faults sink.new;
-        })
-        (record {
-          before = P.written print.old;
-          now = P.written print.new;
-          faults_before = P.faults print.old;
-          faults = P.faults print.new;
-        }) result.code }
+        (source_seen S.gives S.given S.begun S.at S.faults first.source now.source)
+        (sink_seen K.sent K.begun K.at K.faults sink.old sink.new)
+        (print_seen P.written P.faults print.old print.new) result.code }
     ensures tool_sources { names_tool (map string_bytes words.now) ≡ true
         → AreSameFrom 1 sources.old sources.new }
 
     // Simulated inputs: what `trial` and `simulate` come to, with their text.
     ensures simulated { names_simulated (map string_bytes words.now) ≡ true
-        → SimulatedRan (form (map string_bytes words.now))
-        (record {
-          text = D.left settings.old;
-          begun = D.begun settings.new;
-          at = D.at settings.new;
-          faults_before = D.faults settings.old;
-          faults = D.faults settings.new;
-        })
-        (record {
-          sent_before = K.sent sink.old;
-          sent = K.sent sink.new;
-          begun = K.begun sink.new;
-          at = K.at sink.new;
-          faults_before = K.faults sink.old;
-          faults = K.faults sink.new;
-        })
-        (record {
-          before = P.written print.old;
-          now = P.written print.new;
-          faults_before = P.faults print.old;
-          faults = P.faults print.new;
-        }) result.code }
+        → SimulatedRan (is_known O.names (map string_bytes words.now))
+        (form (map string_bytes words.now))
+        (config_seen D.left D.begun D.at D.faults settings.old settings.new)
+        (sink_seen K.sent K.begun K.at K.faults sink.old sink.new)
+        (print_seen P.written P.faults print.old print.new) result.code }
 {
     if asks_threads(words) {
         return tell(
@@ -254,10 +224,13 @@ pub fn run<
             print,
         );
     }
+    if needs_threads(words) {
+        return trial_in_threads::<O, K, P, D, G, R>(rt, gate, alloc, words, settings, sink, print);
+    }
     run_returning::<O, Seat<O, S>, K, P, D>(alloc, words, settings, sources, sink, print)
 }
 
-// Whether the words ask for a run in threads.
+// Whether the words ask for a run over the sources in threads.
 fn asks_threads(words: &[String]) -> bool
     ensures { result ≡ asks_threads (map string_bytes words.now) }
 {

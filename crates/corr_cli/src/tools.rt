@@ -6,6 +6,7 @@ ghost use Rattle.corr_words.specs.Forms.{form};
 ghost use Rattle.corr_cli.specs.Tools.{CommandRan, IsOfTool, RelayComes, RelayRan, TellsText, ToolRan, names_tool, read_code, relay_code, relay_text};
 ghost use Rattle.corr_cli.specs.Placing.{IsAtOwn};
 ghost use Rattle.corr_cli.specs.Texts.{unprinted};
+ghost use Rattle.corr_cli.specs.Seeing.{print_seen, sink_seen, source_seen};
 
 use crate::answer::{Answer, Status};
 use crate::printing::{run_decode, run_inspect};
@@ -68,29 +69,9 @@ pub(crate) fn run_tool<O: Observation, S: PacketSource<O>, K: PacketSink, P: Tex
     requires source { S.begun source.old ≡ false }
     requires sink { K.begun sink.old ≡ false }
     ensures tool { ToolRan (form (map string_bytes words.now)) source.old source.new
-        (record {
-          gives = S.gives source.old;
-          given_before = S.given source.old;
-          given = S.given source.new;
-          begun = S.begun source.new;
-          at = S.at source.new;
-          faults_before = S.faults source.old;
-          faults = S.faults source.new;
-        })
-        (record {
-          sent_before = K.sent sink.old;
-          sent = K.sent sink.new;
-          begun = K.begun sink.new;
-          at = K.at sink.new;
-          faults_before = K.faults sink.old;
-          faults = K.faults sink.new;
-        })
-        (record {
-          before = P.written print.old;
-          now = P.written print.new;
-          faults_before = P.faults print.old;
-          faults = P.faults print.new;
-        }) result.code }
+        (source_seen S.gives S.given S.begun S.at S.faults source.old source.new)
+        (sink_seen K.sent K.begun K.at K.faults sink.old sink.new)
+        (print_seen P.written P.faults print.old print.new) result.code }
 {
     match read_words(alloc, words) {
         Ok(command) => run_command::<O, S, K, P>(alloc, &command, source, sink, print),
@@ -111,29 +92,9 @@ fn run_command<O: Observation, S: PacketSource<O>, K: PacketSink, P: TextSink>(
     requires source { S.begun source.old ≡ false }
     requires sink { K.begun sink.old ≡ false }
     ensures ran { CommandRan command.now source.old source.new
-        (record {
-          gives = S.gives source.old;
-          given_before = S.given source.old;
-          given = S.given source.new;
-          begun = S.begun source.new;
-          at = S.at source.new;
-          faults_before = S.faults source.old;
-          faults = S.faults source.new;
-        })
-        (record {
-          sent_before = K.sent sink.old;
-          sent = K.sent sink.new;
-          begun = K.begun sink.new;
-          at = K.at sink.new;
-          faults_before = K.faults sink.old;
-          faults = K.faults sink.new;
-        })
-        (record {
-          before = P.written print.old;
-          now = P.written print.new;
-          faults_before = P.faults print.old;
-          faults = P.faults print.new;
-        }) result.code }
+        (source_seen S.gives S.given S.begun S.at S.faults source.old source.new)
+        (sink_seen K.sent K.begun K.at K.faults sink.old sink.new)
+        (print_seen P.written P.faults print.old print.new) result.code }
 {
     match command {
         Command::Relay(from, to, limit) => {
@@ -162,29 +123,9 @@ fn run_relay<O: Observation, S: PacketSource<O>, K: PacketSink, P: TextSink>(
     requires source { S.begun source.old ≡ false }
     requires sink { K.begun sink.old ≡ false }
     ensures ran { RelayRan from.now to.now limit
-        (record {
-          gives = S.gives source.old;
-          given_before = S.given source.old;
-          given = S.given source.new;
-          begun = S.begun source.new;
-          at = S.at source.new;
-          faults_before = S.faults source.old;
-          faults = S.faults source.new;
-        })
-        (record {
-          sent_before = K.sent sink.old;
-          sent = K.sent sink.new;
-          begun = K.begun sink.new;
-          at = K.at sink.new;
-          faults_before = K.faults sink.old;
-          faults = K.faults sink.new;
-        })
-        (record {
-          before = P.written print.old;
-          now = P.written print.new;
-          faults_before = P.faults print.old;
-          faults = P.faults print.new;
-        }) result.code }
+        (source_seen S.gives S.given S.begun S.at S.faults source.old source.new)
+        (sink_seen K.sent K.begun K.at K.faults sink.old sink.new)
+        (print_seen P.written P.faults print.old print.new) result.code }
 {
     let end = relay_from::<O, S, K>(from, to, limit, source, sink);
     tell_relay(end, print)
@@ -201,23 +142,8 @@ fn relay_from<O: Observation, S: PacketSource<O>, K: PacketSink>(
     requires source { S.begun source.old ≡ false }
     requires sink { K.begun sink.old ≡ false }
     ensures comes { RelayComes limit
-        (record {
-          gives = S.gives source.old;
-          given_before = S.given source.old;
-          given = S.given source.new;
-          begun = S.begun source.new;
-          at = S.at source.new;
-          faults_before = S.faults source.old;
-          faults = S.faults source.new;
-        })
-        (record {
-          sent_before = K.sent sink.old;
-          sent = K.sent sink.new;
-          begun = K.begun sink.new;
-          at = K.at sink.new;
-          faults_before = K.faults sink.old;
-          faults = K.faults sink.new;
-        }) result }
+        (source_seen S.gives S.given S.begun S.at S.faults source.old source.new)
+        (sink_seen K.sent K.begun K.at K.faults sink.old sink.new) result }
     ensures source_at { IsAtOwn (S.begun source.new) (S.at source.new) (0, from.now) }
     ensures sink_at { IsAtOwn (K.begun sink.new) (K.at sink.new) to.now }
 {
@@ -237,23 +163,8 @@ fn relay_to<O: Observation, S: PacketSource<O>, K: PacketSink>(
     requires source { S.begun source.old ≡ true }
     requires sink { K.begun sink.old ≡ false }
     ensures comes { RelayComes limit
-        (record {
-          gives = S.gives source.old;
-          given_before = S.given source.old;
-          given = S.given source.new;
-          begun = S.begun source.new;
-          at = S.at source.new;
-          faults_before = S.faults source.old;
-          faults = S.faults source.new;
-        })
-        (record {
-          sent_before = K.sent sink.old;
-          sent = K.sent sink.new;
-          begun = K.begun sink.new;
-          at = K.at sink.new;
-          faults_before = K.faults sink.old;
-          faults = K.faults sink.new;
-        }) result }
+        (source_seen S.gives S.given S.begun S.at S.faults source.old source.new)
+        (sink_seen K.sent K.begun K.at K.faults sink.old sink.new) result }
     ensures source_at { S.at source.new ≡ S.at source.old }
     ensures sink_at { IsAtOwn (K.begun sink.new) (K.at sink.new) to.now }
 {

@@ -246,44 +246,44 @@ returns-then-names_simulated-clause-settings_source g c =
 
 pub returns-then-names_simulated-clause-usage : goal.returns-then-names_simulated-clause-usage
 returns-then-names_simulated-clause-usage g c =
-    simulated.simulated_usage (map string_bytes c.args.words.now) _ _ _ _ c.run_simulated.ensures.ran
+    simulated.simulated_usage _ (map string_bytes c.args.words.now) _ _ _ _ c.run_simulated.ensures.ran
 
 pub returns-then-names_simulated-clause-settings : goal.returns-then-names_simulated-clause-settings
 returns-then-names_simulated-clause-settings g c =
-    λ two. inr (simulated.simulated_settings (map string_bytes c.args.words.now) _ _ _ _ c.run_simulated.ensures.ran (sym c.if-names_simulated.ensures) two)
+    λ two. inr (simulated.simulated_settings _ (map string_bytes c.args.words.now) _ _ _ _ c.run_simulated.ensures.ran (sym c.if-names_simulated.ensures) two)
 
 pub returns-then-names_simulated-clause-settings_fault : goal.returns-then-names_simulated-clause-settings_fault
 returns-then-names_simulated-clause-settings_fault g c =
-    simulated.simulated_text (map string_bytes c.args.words.now) _ _ _ _ c.run_simulated.ensures.ran
+    simulated.simulated_text _ (map string_bytes c.args.words.now) _ _ _ _ c.run_simulated.ensures.ran
 
 pub returns-then-names_simulated-clause-sink_fault : goal.returns-then-names_simulated-clause-sink_fault
 returns-then-names_simulated-clause-sink_fault g c =
-    simulated.simulated_sink (map string_bytes c.args.words.now) _ _ _ _ c.run_simulated.ensures.ran
+    simulated.simulated_sink _ (map string_bytes c.args.words.now) _ _ _ _ c.run_simulated.ensures.ran
 
 pub returns-then-names_simulated-clause-print_fault : goal.returns-then-names_simulated-clause-print_fault
 returns-then-names_simulated-clause-print_fault g c =
-    simulated.simulated_print (map string_bytes c.args.words.now) _ _ _ _ c.run_simulated.ensures.ran
+    simulated.simulated_print _ (map string_bytes c.args.words.now) _ _ _ _ c.run_simulated.ensures.ran
 
 pub returns-then-names_simulated-clause-done : goal.returns-then-names_simulated-clause-done
 returns-then-names_simulated-clause-done g c =
-    λ none. let calm = simulated.simulated_done (map string_bytes c.args.words.now) _ _ _ _ c.run_simulated.ensures.ran none in (record { each = λ a d. refl }, calm.0, calm.1, calm.2)
+    λ none. let calm = simulated.simulated_done _ (map string_bytes c.args.words.now) _ _ _ _ c.run_simulated.ensures.ran none in (record { each = λ a d. refl }, calm.0, calm.1, calm.2)
 
 pub returns-then-names_simulated-clause-no_memory : goal.returns-then-names_simulated-clause-no_memory
 returns-then-names_simulated-clause-no_memory g c =
-    λ five. let unused = simulated.simulated_out (map string_bytes c.args.words.now) _ _ _ _ c.run_simulated.ensures.ran five in record { same = refl; sink_unbegun = unused.unbegun; nothing = unused.quiet }
+    λ five. let unused = simulated.simulated_out _ (map string_bytes c.args.words.now) _ _ _ _ c.run_simulated.ensures.ran five in record { same = refl; sink_unbegun = unused.unbegun; nothing = unused.quiet }
 
 pub returns-then-names_simulated-clause-simulated_output : goal.returns-then-names_simulated-clause-simulated_output
 returns-then-names_simulated-clause-simulated_output g c =
-    simulated.simulated_sent (map string_bytes c.args.words.now) _ _ _ _ c.run_simulated.ensures.ran
+    simulated.simulated_sent _ (map string_bytes c.args.words.now) _ _ _ _ c.run_simulated.ensures.ran refl
 
 pub returns-then-names_simulated-clause-simulated_front : goal.returns-then-names_simulated-clause-simulated_front
 returns-then-names_simulated-clause-simulated_front g c =
-    simulated.simulated_front (map string_bytes c.args.words.now) _ _ _ _ c.run_simulated.ensures.ran
+    simulated.simulated_front _ (map string_bytes c.args.words.now) _ _ _ _ c.run_simulated.ensures.ran refl
 
 pub returns-then-names_simulated-clause-simulated_refused : goal.returns-then-names_simulated-clause-simulated_refused
 returns-then-names_simulated-clause-simulated_refused g c =
-    simulated.simulated_refused (map string_bytes c.args.words.now) _ _ _ _ c.run_simulated.ensures.ran
+    simulated.simulated_refused _ (map string_bytes c.args.words.now) _ _ _ _ c.run_simulated.ensures.ran
 
 pub returns-then-names_simulated-clause-simulated_whole : goal.returns-then-names_simulated-clause-simulated_whole
 returns-then-names_simulated-clause-simulated_whole g c =
-    simulated.simulated_whole (map string_bytes c.args.words.now) _ _ _ _ c.run_simulated.ensures.ran
+    simulated.simulated_whole _ (map string_bytes c.args.words.now) _ _ _ _ c.run_simulated.ensures.ran
