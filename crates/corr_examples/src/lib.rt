@@ -10,6 +10,12 @@ mod cut_tests;
 #[cfg(test)]
 mod fault_tests;
 #[cfg(test)]
+mod literal;
+#[cfg(test)]
+mod literal_tests;
+#[cfg(test)]
+mod meeting_tests;
+#[cfg(test)]
 mod output;
 #[cfg(test)]
 mod outside;

@@ -17,10 +17,10 @@ use std::sync::atomic::{AtomicBool, Ordering};
 use std::test::Fail;
 use std::thread::{Threads, yield_now};
 
-// Seats whose sources are not begun.
+/// Seats whose sources are not begun.
 #[derive(Drop)]
-struct Seats {
-    list: Vec<Seat<Unheard, ListSource<Unheard>>>,
+pub struct Seats {
+    pub list: Vec<Seat<Unheard, ListSource<Unheard>>>,
     ghost fresh: { All (λ s. IsFresh s.source) list.items },
 }
 
@@ -35,8 +35,8 @@ impl Seats {
     }
 }
 
-// The seats of two antennas, of which the second loses a heap, and 62 more.
-fn all_seats(alloc: Global) -> Result<Seats, Fail> {
+/// The seats of two antennas, of which the second loses a heap, and 62 more.
+pub fn all_seats(alloc: Global) -> Result<Seats, Fail> {
     let mut seats = Seats {
         list: Vec::new(alloc),
     };

@@ -3,8 +3,14 @@
 use crate::correlate_tests::{FOUR, text_of};
 use crate::outside::{Ended, Fault, run_over, words_of};
 use crate::packets::Strings;
+use crate::thread_tests::all_seats;
+use corr_cli::run;
+use corr_model::Unheard;
+use corr_site::{ListPrint, ListSink, NoGate};
 use std::alloc::Global;
+use std::sync::Wait;
 use std::test::Fail;
+use std::thread::Threads;
 
 const SUMMARY: &[u8] = b"sent 24 packets 22368 bytes mark b8148637bc1a4755
 stream 0 taken 8202 ended stop refused 0 dropped 30 stale 0 evicted 21 baddesc 0 undescribed 1 foreign 0 before 0 offgrid 0 wild 0 beyond 0 late 0 twice 0 used 491
@@ -32,15 +38,35 @@ fn the_simulated_trial(rt: HostRuntime) -> Result<(), Fail> {
     Ok(())
 }
 
-#[test]
-fn without_the_flag_the_same_is_printed(rt: HostRuntime) -> Result<(), Fail> {
-    for workers in ["workers = 0", "workers = 1", "workers = 4"] {
-        let settings = FOUR.replace(rt.alloc(), "workers = 4", workers)?;
-        let line = "spead_corr trial run.toml 7";
-        let end = run_line(rt.alloc(), line, settings.as_str(), Fault::No)?;
-        assert_eq!(rt; end.code, 0);
-        assert_eq!(rt; end.print.text(), SUMMARY);
+// Whether a trial in threads with so many workers ends well and prints the same.
+fn is_right<R: Threads + Wait + Sync>(rt: &R, alloc: Global, workers: &str) -> Result<bool, Fail> {
+    let words = words_of(alloc, "spead_corr trial run.toml 7")?;
+    let text = FOUR.replace(alloc, "workers = 4", workers)?;
+    let mut settings = text_of(alloc, text.as_bytes(), false)?;
+    let mut seats = all_seats(alloc)?.list;
+    if seats.len() != 64 {
+        return Err(Fail::from("not 64 seats"));
     }
+    let mut sink = ListSink::new(alloc, 32, 32768, Vec::new(alloc), false)?;
+    let mut print = ListPrint::new(alloc, 1024, Vec::new(alloc))?;
+    let status = run::<Unheard, _, _, _, _, _, _>(
+        rt,
+        alloc,
+        &words,
+        &mut settings,
+        seats.as_mut_slice(),
+        &mut sink,
+        &mut print,
+        &NoGate,
+    );
+    Ok(status.code == 0 && sink.len() == 24 && print.text() == SUMMARY)
+}
+
+#[test]
+fn threads_print_the_same(rt: HostRuntime) -> Result<(), Fail> {
+    assert!(rt; is_right(&rt, rt.alloc(), "workers = 0")?);
+    assert!(rt; is_right(&rt, rt.alloc(), "workers = 1")?);
+    assert!(rt; is_right(&rt, rt.alloc(), "workers = 4")?);
     Ok(())
 }
 
