@@ -19,3 +19,6 @@ pub use progress::Progress;
 pub use sink::ProgramSink;
 pub use source::{ProgramSource, program_source};
 pub use text::FileText;
+
+#[cfg(test)]
+mod tests;
