@@ -13,27 +13,6 @@ accumulations=768
 # A record: its length, a packet of eight words, four bytes of samples a spectrum.
 record=$((4 + 64 + 4 * spectra))
 
-# Writes the captures of all antennas: a heap at each timestamp, with samples that differ from heap to heap.
-make_captures() {
-    python3 - "$folder" "$antennas" "$spectra" "$((heaps * accumulations))" <<'PYTHON'
-import random
-import struct
-import sys
-
-folder, antennas, spectra, timestamps = sys.argv[1], *map(int, sys.argv[2:])
-size = 4 * spectra
-noise = random.Random(1).randbytes(size + 4096)
-for antenna in range(antennas):
-    with open(f"{folder}/whole{antenna}.cap", "wb") as capture:
-        capture.write(b"SPCAPT01")
-        for t in range(timestamps):
-            words = (0x5304020600000007, 0x8001 << 48 | t + 1, 0x8002 << 48 | size, 0x8003 << 48,
-                     0x8004 << 48 | size, 0x9600 << 48 | t, 0xC101 << 48 | antenna, 0x4300 << 48)
-            start = (t * (antenna + 7)) % 4096
-            capture.write(struct.pack(">I8Q", 64 + size, *words) + noise[start:start + size])
-PYTHON
-}
-
 # The first quarter of each capture: the records of a quarter of the accumulations.
 cut_captures() {
     local antenna
@@ -63,7 +42,7 @@ measure() {
                name, datagrams, bytes, $1, datagrams / seconds, bytes / seconds, $2 }' <<<"$measured"
 }
 
-make_captures
+write_captures whole "$antennas" "$((4 * spectra))" "$((heaps * accumulations))"
 cut_captures
 measure quarter $((accumulations / 4))
 quarter=$measured

@@ -8,26 +8,6 @@ set -euo pipefail
 source -- "${BASH_SOURCE[0]%/*}/common.sh" "${1:-}"
 runs=${2:-3}
 
-# Writes the captures of all antennas: a heap of one packet at each timestamp, with samples that differ.
-make_captures() {
-    python3 - "$folder" "$antennas" "$((4 * channels * spectra))" "$((heaps * accumulations))" <<'PYTHON'
-import random
-import struct
-import sys
-
-folder, antennas, size, timestamps = sys.argv[1], *map(int, sys.argv[2:])
-noise = random.Random(1).randbytes(size + 4096)
-for antenna in range(antennas):
-    with open(f"{folder}/{antenna}.cap", "wb") as capture:
-        capture.write(b"SPCAPT01")
-        for t in range(timestamps):
-            words = (0x5304020600000007, 0x8001 << 48 | t + 1, 0x8002 << 48 | size, 0x8003 << 48,
-                     0x8004 << 48 | size, 0x9600 << 48 | t, 0xC101 << 48 | antenna, 0x4300 << 48)
-            start = (t * (antenna + 7)) % 4096
-            capture.write(struct.pack(">I8Q", 64 + size, *words) + noise[start:start + size])
-PYTHON
-}
-
 # Writes the settings for this number of workers.
 write_settings() {
     local antenna inputs=
@@ -75,7 +55,7 @@ measure() {
 # One load, by its name: makes the captures and measures each way.
 bench() {
     rm -f "$folder"/*.cap
-    make_captures
+    write_captures "" "$antennas" "$((4 * channels * spectra))" "$((heaps * accumulations))"
     echo "$1: $antennas antennas, $channels channels, $spectra spectra, $heaps heaps, $accumulations accumulations"
     local way
     for way in serial 0 1 2 4; do
