@@ -1,5 +1,5 @@
 -- Two sources that are begun.
-use Rattle.std.proofs.Common.{◌≡◌, ℕ, zero, suc, ◌<◌, Bool, true, List, [], ◌∷◌, get_or, subst, arith}
+use Rattle.std.proofs.Common.{◌≡◌, ℕ, zero, suc, ◌<◌, Bool, true, [], ◌∷◌, get_or, subst, arith}
 use Rattle.corr_serial.specs.Sources.{AreBegun}
 
 each_of_two : {S : Type 0} (begun : S → Bool) (x y : S) → begun x ≡ true → begun y ≡ true → (a : ℕ) (d : S) → a < 2 → begun (get_or (x ∷ y ∷ []) a d) ≡ true
