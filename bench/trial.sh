@@ -1,6 +1,8 @@
 #!/usr/bin/env bash
-# How much memory `trial` takes for 64 simulated antennas, beside the bytes that its plan reserves, and how long it
-# takes. A program that takes more than a twentieth above the reserved bytes and 16 MiB fails.
+# How much memory `trial` takes for 64 simulated antennas, on one thread and in threads, beside the bytes that its plan
+# reserves, and how long it takes. Fails where one thread takes more than is reserved, or threads more than a tenth
+# above that and the payload of one visibility heap and 16 MiB: what is not reserved are that payload, the program
+# itself, and the stack and the line of each thread.
 # Usage: bench/trial.sh [PROGRAM]
 set -euo pipefail
 
@@ -34,21 +36,30 @@ output = "$folder/out.cap"
 SETTINGS
 }
 
-# The bytes that the plan reserves, as the formats write them out.
+# The bytes that the plan reserves, as the formats write them out, and those of the payload of a visibility heap.
 reserved() {
     local heap=$((4 * channels * spectra)) baselines=$((antennas * (antennas + 1) / 2))
     local limit=$((heap + 4096)) column=$((heaps * (heap + 1))) value=$((64 * channels * baselines + 4 * baselines))
     local map=$(((limit + 7) / 8))
-    echo $((antennas * (window * (limit + map) + 3 * column) + (slots + 1) * (antennas * column + value) + value))
+    echo $((antennas * (window * (limit + map) + 3 * column) + (slots + 1) * (antennas * column + value) + value)) "$value"
+}
+
+# Measures a trial with these flags, against at most so many bytes.
+measure() {
+    local most=$1 text
+    shift
+    text=$(/usr/bin/time -o "$folder/time" -f '%e %M' "$program" trial "$@" "$folder/trial.toml" 7)
+    if [ "$(grep -c 'ended stop' <<<"$text")" != "$antennas" ]; then
+        echo "bench: the program printed: $text" >&2
+        return 1
+    fi
+    head -n 1 <<<"$text"
+    awk -v most="$most" -v reserved="$bytes" -v way="${1:-in threads}" \
+        '{ printf "64 antennas %s: %.2f s, %d KiB at most, %d KiB reserved\n", way, $1, $2, reserved / 1024
+           exit $2 * 1024 > most }' "$folder/time"
 }
 
 write_settings
-text=$(/usr/bin/time -o "$folder/time" -f '%e %M' "$program" trial "$folder/trial.toml" 7)
-if [ "$(grep -c 'ended stop' <<<"$text")" != "$antennas" ]; then
-    echo "bench: the program printed: $text" >&2
-    exit 1
-fi
-head -n 1 <<<"$text"
-tail -n 1 "$folder/time" | awk -v reserved="$(reserved)" \
-    '{ printf "64 antennas: %.2f s, %d KiB at most, %d KiB reserved\n", $1, $2, reserved / 1024
-       exit $2 * 1024 > reserved * 1.05 + 16777216 }'
+read -r bytes value < <(reserved)
+measure "$bytes" --serial
+measure $((bytes + bytes / 10 + value + 16777216))
