@@ -11,21 +11,22 @@ trap 'rm -rf -- "$folder"' EXIT
 
 # Writes the captures of all antennas, each by this name and its number: at each timestamp a heap of one packet, with
 # samples that differ from heap to heap and between antennas.
-# Usage: write_captures NAME ANTENNAS BYTES TIMESTAMPS, the bytes of a heap's samples
+# Usage: write_captures NAME ANTENNAS BYTES TIMESTAMPS [FURTHER], the bytes of a heap's samples; with FURTHER each heap
+# says an antenna so much further on, and so is none of its own stream
 write_captures() {
-    python3 - "$folder/$1" "$2" "$3" "$4" <<'PYTHON'
+    python3 - "$folder/$1" "$2" "$3" "$4" "${5:-0}" <<'PYTHON'
 import random
 import struct
 import sys
 
-name, antennas, size, timestamps = sys.argv[1], *map(int, sys.argv[2:])
+name, antennas, size, timestamps, further = sys.argv[1], *map(int, sys.argv[2:])
 noise = random.Random(1).randbytes(size + 4096)
 for antenna in range(antennas):
     with open(f"{name}{antenna}.cap", "wb") as capture:
         capture.write(b"SPCAPT01")
         for t in range(timestamps):
             words = (0x5304020600000007, 0x8001 << 48 | t + 1, 0x8002 << 48 | size, 0x8003 << 48,
-                     0x8004 << 48 | size, 0x9600 << 48 | t, 0xC101 << 48 | antenna, 0x4300 << 48)
+                     0x8004 << 48 | size, 0x9600 << 48 | t, 0xC101 << 48 | antenna + further, 0x4300 << 48)
             start = (t * (antenna + 7)) % 4096
             capture.write(struct.pack(">I8Q", 64 + size, *words) + noise[start:start + size])
 PYTHON

@@ -19,29 +19,9 @@ accumulations=$((256 / spectra > 0 ? 256 / spectra : 1))
 
 # Writes two captures of each antenna: one whose heaps say that antenna, and one whose heaps say another.
 make_captures() {
-    python3 - "$folder" "$antennas" "$((4 * channels * spectra))" "$((heaps * accumulations))" <<'PYTHON'
-import random
-import struct
-import sys
-
-folder, antennas, size, timestamps = sys.argv[1], *map(int, sys.argv[2:])
-noise = random.Random(1).randbytes(size + 4096)
-
-
-def write(name, antenna, said):
-    with open(f"{folder}/{name}{antenna}.cap", "wb") as capture:
-        capture.write(b"SPCAPT01")
-        for t in range(timestamps):
-            words = (0x5304020600000007, 0x8001 << 48 | t + 1, 0x8002 << 48 | size, 0x8003 << 48,
-                     0x8004 << 48 | size, 0x9600 << 48 | t, 0xC101 << 48 | said, 0x4300 << 48)
-            start = (t * (antenna + 7)) % 4096
-            capture.write(struct.pack(">I8Q", 64 + size, *words) + noise[start:start + size])
-
-
-for antenna in range(antennas):
-    write("used", antenna, antenna)
-    write("read", antenna, antenna + 1)
-PYTHON
+    local size=$((4 * channels * spectra)) timestamps=$((heaps * accumulations))
+    write_captures used "$antennas" "$size" "$timestamps"
+    write_captures read "$antennas" "$size" "$timestamps" 1
 }
 
 # The C program: its words are antennas, channels, spectra, heaps and accumulations, then the inputs and the output.
