@@ -59,6 +59,7 @@ impl Live {
     {
         let words = unmarked(alloc, limit as usize)?;
         let bytes = zeros(alloc, limit as usize)?;
+        let pointers = PointerSet::new(alloc)?;
         Ok(Live {
             counter: 0,
             limit,
@@ -67,7 +68,7 @@ impl Live {
             have: 0,
             words,
             bytes,
-            pointers: PointerSet::new(),
+            pointers,
             whole: false,
         })
     }

@@ -1,49 +1,52 @@
 //! The distinct pointers of a heap that is being put together.
 
-ghost use Rattle.std.specs.Prelude.{◌≡◌, ◌<◌, ◌≤◌, [], length, take, MatchBool};
+ghost use Rattle.std.specs.Prelude.{◌≡◌, ◌<◌, ◌≤◌, [], length, take, IfOk, MatchBool};
 ghost use Rattle.std.specs.List.{list_any};
 ghost use Rattle.corr_model.specs.Assembly.{are_same};
 ghost use Rattle.heap_assembly.specs.Steps.{with_pointer, with_pointers};
 
 use corr_model::Pointer;
 use spead_wire::Packet;
+use std::alloc::{AllocError, Global};
 use std::marker::Model;
 
 // The most distinct pointers that a heap can have.
 const MOST: usize = 64;
 
-/// At most 64 item pointers in the order of their first standing, no two of them the same.
+/// At most 64 item pointers in the order of their first standing, no two of them the same. They
+/// stand apart, so that a heap that is moved is a few words.
 #[derive(Drop)]
 pub(crate) struct PointerSet {
-    pointers: [Pointer; MOST],
+    pointers: Vec<Pointer>,
     len: usize,
 }
 
 impl Model for PointerSet {
-    ghost use Rattle.std.specs.Prelude.{◌≤◌, List, take};
+    ghost use Rattle.std.specs.Prelude.{◌≡◌, ◌≤◌, List, take};
+    ghost use Rattle.std.specs.Vec.{vec_len};
     ghost use Rattle.corr_model.specs.declared.pointer.Pointer.{Pointer};
 
     ghost Value = { List Pointer };
 
-    ghost view = { λ s. take s.len s.pointers };
+    ghost view = { λ s. take s.len s.pointers.items };
 
-    ghost invariant = { λ s. s.len ≤ 64 };
+    ghost invariant = { λ s. (s.len ≤ 64) × (vec_len s.pointers ≡ 64) };
 }
 
 impl PointerSet {
-    /// No pointer.
-    pub(crate) fn new() -> Self
-        ensures { result ≡ [] }
+    /// No pointer. `AllocError` where there is no memory for the most.
+    pub(crate) fn new(alloc: Global) -> Result<Self, AllocError>
+        ensures { IfOk result (λ s. s ≡ []) }
     {
         let unused = Pointer {
             immediate: false,
             id: 0,
             value: 0,
         };
-        PointerSet {
-            pointers: [unused; MOST],
+        Ok(PointerSet {
+            pointers: vec![in alloc; unused; MOST]?,
             len: 0,
-        }
+        })
     }
 
     /// The pointers.
@@ -113,7 +116,7 @@ impl PointerSet {
         if self.contains(&pointer) {
             return true;
         }
-        if self.len == self.pointers.len() {
+        if self.len == MOST {
             return false;
         }
         self.pointers[self.len] = pointer;
