@@ -15,7 +15,7 @@ use Rattle.vis_kernel.specs.declared.products.Value.{Value}
 use Rattle.vis_kernel.specs.declared.products.Products.{Products}
 use Rattle.vis_kernel.specs.Sizes.{complex_of, IsUpTo, AreUpTo, IsSmall, AreSmall, ArePartsOf, eight_parts}
 use Rattle.vis_kernel.specs.Kernels.{two_parts, add_sums, zeros, four_products, cell_values, baseline_values, missing_in, add_at}
-use Rattle.vis_kernel.proofs.SumLemmas.{wider}
+use Rattle.vis_kernel.proofs.SumLemmas.{wider, wider_up_to, zero_up_to}
 use Rattle.vis_shape.proofs.AddLemmas.{AddedFront, front_none, front_more, front_up_to, front_all, front_long, length-add_sums, add_sums-append, add_sums-assoc, add_sums-up_to}
 
 abbrev Cell : Type 0
@@ -77,9 +77,6 @@ pub all_eight : (xs o after last all : List ℤ) (v : Products) → length xs �
     → all ≡ add_sums xs (eight_parts v)
 all_eight xs o after last all v long e f g h =
     front_all xs all (eight_parts v) (next_front xs last all (two_of v.xx ++ two_of v.xy ++ two_of v.yx) (two_of v.yy) (third_front xs o after last v long e f g) (omega arith) h) (sym long)
-
-one_more : (z : ℤ) (m n : ℕ) → m ≤ n → IsUpTo z m → IsUpTo z n
-one_more z m n le h = let low = h.low in let high = h.high in record { low = omega (arith, ints); high = omega (arith, ints) }
 
 -- ---- channels
 
@@ -160,9 +157,6 @@ flat_zeros (k ∷ ks) =
 pub add_sums-zeros : (xs : List ℤ) → add_sums xs (zeros (length xs)) ≡ xs
 add_sums-zeros [] = refl
 add_sums-zeros (x ∷ xs) = let same : x +ℤ pos 0 ≡ x = omega (arith, ints) in ap₂ (λ u us. u ∷ us) same (add_sums-zeros xs)
-
-zero_up_to : (size : ℕ) → IsUpTo (pos 0) size
-zero_up_to size = record { low = omega (arith, ints); high = omega (arith, ints) }
 
 zeros_up_to : (n size : ℕ) → AreUpTo (zeros n) size
 zeros_up_to zero size = All-nil (λ z. IsUpTo z size)
@@ -292,7 +286,7 @@ multiplied_more plan x y old now after from t before missing later u v i h hx hy
     }
 
 up_to_more : (xs : List ℤ) (m n : ℕ) → m ≤ n → AreUpTo xs m → AreUpTo xs n
-up_to_more xs m n le h = λ k d inside. one_more (get_or xs k d) m n le (h k d inside)
+up_to_more xs m n le h = λ k d inside. wider_up_to (get_or xs k d) m n le (h k d inside)
 
 -- what stands so far is small enough for a place more
 pub still_small : (plan : Plan) (x y : List Cell) (old now : List ℤ) (from t before missing : ℕ) → Multiplied plan x y old now from t before missing → t - from ≤ 4096 → plan.spectra ≤ 4096 → AreUpTo old (2 ^ 55) → AreUpTo now (2 ^ 56)

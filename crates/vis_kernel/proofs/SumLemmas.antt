@@ -57,6 +57,13 @@ sum_up_to a b h k = let l = h.low in let m = h.high in let n = k.low in let o = 
 pub difference_up_to : (a b : ℤ) → IsUpTo a 16384 → IsUpTo b 16384 → IsUpTo (to_z w32 (of_z w32 (to_z w32 (of_z w32 a) -ℤ to_z w32 (of_z w32 b)))) 32768
 difference_up_to a b h k = let l = h.low in let m = h.high in let n = k.low in let o = k.high in record { low = omega (arith, ints); high = omega (arith, ints) }
 
+-- zero, and a wider bound
+pub zero_up_to : (size : ℕ) → IsUpTo (pos 0) size
+zero_up_to size = record { low = omega (arith, ints); high = omega (arith, ints) }
+
+pub wider_up_to : (z : ℤ) (m n : ℕ) → m ≤ n → IsUpTo z m → IsUpTo z n
+wider_up_to z m n le h = let low = h.low in let high = h.high in record { low = omega (arith, ints); high = omega (arith, ints) }
+
 -- one more term
 pub total_push : (f : ℕ → Complex) (s : ℕ) → total (map f (numbers 0 (s + 1))) ≡ plus (total (map f (numbers 0 s))) (f s)
 total_push f s =

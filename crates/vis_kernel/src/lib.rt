@@ -3,6 +3,7 @@
 
 mod adding;
 mod kernel;
+mod lanes;
 mod products;
 
 pub use kernel::multiply;

@@ -6,6 +6,7 @@ ghost use Rattle.corr_model.specs.Plans.{Fits, sample_bytes};
 ghost use Rattle.corr_model.specs.Visibilities.{signed, sample, times_conjugate, plus, of_cells};
 ghost use Rattle.vis_kernel.specs.Sizes.{complex_of, IsUpTo, IsSmall, ArePartsOf};
 
+use crate::lanes::pair_products;
 use corr_model::Plan;
 
 /// A complex number in whole numbers.
@@ -13,13 +14,6 @@ use corr_model::Plan;
 pub(crate) struct Value {
     pub real: i32,
     pub imaginary: i32,
-}
-
-impl Value {
-    const ZERO: Value = Value {
-        real: 0,
-        imaginary: 0,
-    };
 }
 
 /// The four products of two samples or sums of them, by the polarisations of the first and the second.
@@ -95,7 +89,8 @@ impl Value {
     }
 }
 
-/// The four products of two cells at one channel, summed over the spectra.
+/// The four products of two cells at one channel, summed over the spectra: over pairs of them in lanes, and
+/// over a last one that is left by itself.
 pub(crate) fn channel_products(plan: &Plan, x: &[u8], y: &[u8], channel: u32) -> Products
     requires fits { Fits plan.now }
     requires x_whole { length x.now ≡ sample_bytes plan.now }
@@ -103,13 +98,8 @@ pub(crate) fn channel_products(plan: &Plan, x: &[u8], y: &[u8], channel: u32) ->
     requires channel { channel < plan.now.channels }
     ensures { ArePartsOf result (plan.now.spectra * 2 ^ 15) (λ p q. of_cells plan.now channel p q (Some x.now) (Some y.now)) }
 {
-    let mut sum = Products {
-        xx: Value::ZERO,
-        xy: Value::ZERO,
-        yx: Value::ZERO,
-        yy: Value::ZERO,
-    };
-    for spectrum in 0..plan.spectra {
+    let mut sum = pair_products(plan, x, y, channel);
+    for spectrum in 2 * (plan.spectra / 2)..plan.spectra {
         let x0 = sample_at(plan, x, channel, spectrum, 0);
         let x1 = sample_at(plan, x, channel, spectrum, 1);
         let y0 = sample_at(plan, y, channel, spectrum, 0);

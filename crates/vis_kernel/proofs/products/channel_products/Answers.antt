@@ -1,7 +1,10 @@
 use Rattle.std.proofs.Common.{arith, lit≤, ◌^◌}
 use Rattle.vis_kernel.proofs.SumLemmas.{summed_more, wider}
-use Rattle.vis_kernel.proofs.ProductLemmas.{within, all_spectra}
+use Rattle.vis_kernel.proofs.ProductLemmas.{first_pairs, within, all_spectra}
 use Rattle.vis_kernel.proofs.products.channel_products.Goals as goal
+
+pub loop-spectrum-init : goal.loop-spectrum-init
+loop-spectrum-init c = first_pairs _ _ _ _ _ _ c.pair_products-sum.ensures
 
 pub plus-requires-clause-first : goal.plus-requires-clause-first
 plus-requires-clause-first c = let few = c.requires.fits.ranges.shape.spectra.most_met in within _ _ _ _ _ _ _ _ c.loop-spectrum.invariant.xx (omega arith)

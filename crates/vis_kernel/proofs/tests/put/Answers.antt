@@ -9,4 +9,4 @@ plan_stays old new t samples New h = ap (λ c. c.plan) h.1
 plan_stays old new t samples Twice h = ap (λ c. c.plan) h.1
 
 pub returns : goal.returns
-returns c = plan_stays c.args.column.now c.place.new.self c.args.t c.args.samples c.place.result c.place.ensures
+returns c = plan_stays c.args.column.now c.place.new.self c.args.t c.args.samples.now c.place.result c.place.ensures
