@@ -1,8 +1,8 @@
 -- What the changes of a slot keep.
-use Rattle.std.proofs.Common.{◌≡◌, ◌≢◌, ℕ, ℤ, pos, ◌+ℤ◌, zero, suc, ◌+◌, ◌-◌, ◌<◌, ◌≤◌, Bool, true, false, cond, List, [], ◌∷◌, ◌++◌, length, map, get_or, slice_set, replicate, count_by, Option, refl, sym, ap, ap₂, ◌∙◌, subst, inl, inr, arith, add-zero}
+use Rattle.std.proofs.Common.{◌≡◌, ℕ, ℤ, pos, ◌+ℤ◌, zero, suc, ◌+◌, ◌-◌, ◌<◌, ◌≤◌, Bool, true, false, cond, List, [], ◌∷◌, ◌++◌, length, map, get_or, slice_set, replicate, count_by, Option, refl, sym, ap, ap₂, ◌∙◌, subst, inl, inr, arith, add-zero}
 use Rattle.std.proofs.lemmas.Int.{ints}
 use Rattle.std.proofs.lemmas.Bool.{cases_lt, false≢true}
-use Rattle.std.proofs.lemmas.List.{map-append, replicate-append-replicate, get_or-replicate, length-replicate, get_or_default, length-set, get_or-set_other, length-map}
+use Rattle.std.proofs.lemmas.List.{map-append, replicate-append-replicate, get_or_default, length-set, get_or-set_other, length-map}
 use Rattle.std.proofs.lemmas.List.Sums.{count_by-le-length, sum_by-cons}
 use Rattle.std.proofs.lemmas.Grind.{get_or-set_at}
 use Rattle.corr_model.specs.declared.plan.Plan.{Plan}
@@ -12,15 +12,12 @@ use Rattle.corr_model.proofs.CountedLists.{length-numbers, numbers_push}
 use Rattle.corr_model.specs.Streams.{column}
 use Rattle.slot_column.specs.Columns.{Cells, Hand, IsColumnOf}
 use Rattle.vis_shape.specs.Sums.{Sums, add_sums, zeros, no_sums, with_sums}
-use Rattle.vis_back.specs.Sets.{IsFor, IsFullSet, cells_of, columns_of}
-use Rattle.slot_ring.specs.declared.held.Kind.{Kind}
-use Rattle.slot_ring.specs.declared.held.Kind.TheVariants.{Filling, Working, Done}
-use Rattle.slot_ring.specs.Means.{Means, IsMeant, meant, AreTold, IsHeld, AreHeld, AreSpare, AreClosed, spare_hand}
-use Rattle.slot_ring.specs.declared.work.Stage.{Stage}
+use Rattle.vis_back.specs.Sets.{IsFullSet, cells_of, columns_of}
+use Rattle.slot_ring.specs.Means.{Means, IsMeant, AreTold, AreHeld, AreSpare, AreClosed, spare_hand}
 use Rattle.slot_ring.specs.declared.work.Stage.TheVariants.{Free, Taken, Computed}
-use Rattle.slot_ring.specs.Slots.{View, WorkView, OutgoingView, HasShape, IsSlot, IsWork, IsOutgoing, empty_slot, free_work, no_outgoing, held_of, standing}
+use Rattle.slot_ring.specs.Slots.{View, WorkView, HasShape, IsSlot, IsWork, empty_slot, held_of, standing}
 use Rattle.slot_ring.specs.Rings.{IsRing}
-use Rattle.slot_ring.specs.Answers.{AcceptsPut, Puts, AcceptsTake, AcceptsStore, AcceptsSend, FreesAll, Computes}
+use Rattle.slot_ring.specs.Answers.{AcceptsTake, AcceptsStore, FreesAll, Computes}
 
 -- ---- a full slot
 
@@ -107,7 +104,7 @@ taken_free e = cc
 taken_computed : Taken ≡ Computed → ⊥
 taken_computed e = cc
 
-free_computed : Free ≡ Computed → ⊥
+pub free_computed : Free ≡ Computed → ⊥
 free_computed e = cc
 
 pub take_work : (m : Means) (size : Plan → ℕ) (old : View) (w : WorkView) → IsSlot m (size old.plan) old → IsWork m (size w.plan) w → AcceptsTake (held_of old) w.plan
