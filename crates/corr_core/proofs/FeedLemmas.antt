@@ -215,9 +215,9 @@ end_stands value p state a g h on antenna given ended =
     subst (λ v. PartsStandWith v now next) (values_same value plan state next same) with_old
 
 -- an end that the stream takes
-pub ended_happens : (value : Value) (old now : PartsView) (state : State) (a : ℕ) → StandFor value old state → a < old.plan.antennas
-    → takes_strings old a ≡ true → FeedChanged old now a (λ f g. TookEnd f g) → Happens value old.plan now state (End a) true
-ended_happens value old now state a h few takes took =
+pub ended_happens : (value : Value) (old now : PartsView) (state : State) (a : ℕ) (how : Ending) → StandFor value old state → a < old.plan.antennas
+    → takes_strings old a ≡ true → FeedChanged old now a (λ f g. TookEnd f g how) → Happens value old.plan now state (End a) true
+ended_happens value old now state a how h few takes took =
     let on = sym (takes_where_ready value old state a h few) ∙ takes in
     let g = took.feed in
     let t = took.does in

@@ -8,3 +8,4 @@ pub mod EmitLemmas
 pub mod SoundLemmas
 pub mod ChangeLemmas
 pub mod NewLemmas
+pub mod EndLemmas

@@ -1,5 +1,6 @@
 -- What the calls of a core's parts change. This project's own.
-use Rattle.std.specs.Prelude.{◌≡◌, ◌+◌, ◌%◌, ℕ, Bool, true, false, List, [], ◌∷◌, ◌++◌, length, slice_set, is_some}
+use Rattle.std.specs.Prelude.{◌≡◌, ◌+◌, ◌%◌, ℕ, Bool, true, false, List, [], ◌∷◌, ◌++◌, length, slice_set, is_some, Some}
+use Rattle.corr_model.specs.declared.verdict.Ending.{Ending}
 use Rattle.slot_column.specs.Columns.{Hand}
 use Rattle.vis_back.specs.Sets.{cells_of}
 use Rattle.stream_feed.specs.Feeding.{FeedState, StandsFor, IsSameStream, is_said, column_of}
@@ -46,10 +47,11 @@ pub record TookString (old now : FeedState) (b : List ℕ) : Type 0 where
   pub own : is_said now.report.ended ≡ false
   pub same : IsSameStream old now
 
--- its stream ended
-pub record TookEnd (old now : FeedState) : Type 0 where
+-- its stream ended as was said
+pub record TookEnd (old now : FeedState) (how : Ending) : Type 0 where
   pub stood : (l : List (List ℕ)) → StandsFor old l → StandsFor now l
   pub ended : is_some now.report.ended ≡ true
+  pub said : now.report.ended ≡ Some how
   pub same : IsSameStream old now
 
 -- the column that was due is in the hand

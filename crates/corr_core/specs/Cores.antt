@@ -1,10 +1,11 @@
 -- What contracts see of a core, and what one step does, by its answer. This project's own.
-use Rattle.std.specs.Prelude.{◌≡◌, ◌⊎◌, ◌<◌, ◌≤◌, ℕ, Bool, true, false, List, length, Option}
+use Rattle.std.specs.Prelude.{◌≡◌, ◌≢◌, ◌⊎◌, ◌<◌, ◌≤◌, ℕ, Bool, true, false, List, length, Option, Some}
 use Rattle.corr_model.specs.declared.plan.Plan.{Plan}
+use Rattle.corr_model.specs.declared.verdict.Ending.{Ending}
 use Rattle.corr_model.specs.declared.verdict.Ending.TheVariants as endings
 use Rattle.corr_model.specs.Visibilities.{Lists}
 use Rattle.corr_site.specs.Outside.{Rises}
-use Rattle.stream_feed.specs.Feeding.{IsNext}
+use Rattle.stream_feed.specs.Feeding.{IsNext, is_said}
 use Rattle.vis_send.specs.declared.tally.Sent.{Sent}
 use Rattle.vis_send.specs.Emitters.{Strings}
 use Rattle.vis_send.specs.Sending.{SendsWhole, SendsFront}
@@ -99,3 +100,39 @@ has_failed before other = before
 abbrev pub StepHasCause : ℕ → ℕ → Stepped → Type 0
 StepHasCause before now Failed = Rises before now
 StepHasCause before now other = now ≡ before
+
+-- how the stream of antenna a ended, where it has
+abbrev pub end_of : PartsView → ℕ → Option Ending
+end_of p a = (feed_in p a).report.ended
+
+-- each stream has ended as it had
+abbrev pub KeepsEnds : PartsView → PartsView → Type 0
+KeepsEnds old now = (a : ℕ) → a < length old.feeds → end_of now a ≡ end_of old a
+
+-- so has each but that of antenna a
+abbrev pub KeepsOtherEnds : PartsView → PartsView → ℕ → Type 0
+KeepsOtherEnds old now a = (b : ℕ) → b < length old.feeds → b ≢ a → end_of now b ≡ end_of old b
+
+-- a string that the stream of antenna a took ends it by itself or not at all
+abbrev pub EndsByString : PartsView → PartsView → ℕ → Bool → Type 0
+EndsByString old now a true = (a < length old.feeds → is_said (end_of now a) ≡ false) × KeepsOtherEnds old now a
+EndsByString old now a false = KeepsEnds old now
+
+-- an end that it took ends it as was said
+abbrev pub EndsAsSaid : PartsView → PartsView → ℕ → Ending → Bool → Type 0
+EndsAsSaid old now a how true = (a < length old.feeds → end_of now a ≡ Some how) × KeepsOtherEnds old now a
+EndsAsSaid old now a how false = KeepsEnds old now
+
+-- the step moved
+abbrev pub has_moved : Stepped → Bool
+has_moved Moved = true
+has_moved other = false
+
+-- how the streams have ended after a step, by its answer; none but a Send fails
+abbrev pub EndsAfter : PartsView → PartsView → CoreEvent → Stepped → Type 0
+EndsAfter old now (core_events.Packet a b) answer = (answer ≢ Failed) × EndsByString old now a (has_moved answer)
+EndsAfter old now (core_events.End a how) answer = (answer ≢ Failed) × EndsAsSaid old now a how (has_moved answer)
+EndsAfter old now (core_events.Put a) answer = (answer ≢ Failed) × KeepsEnds old now
+EndsAfter old now (core_events.Take w s) answer = (answer ≢ Failed) × KeepsEnds old now
+EndsAfter old now (core_events.Store w) answer = (answer ≢ Failed) × KeepsEnds old now
+EndsAfter old now core_events.Send answer = KeepsEnds old now

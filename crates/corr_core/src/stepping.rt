@@ -17,7 +17,7 @@ impl<O: Observation, B: Backend> Parts<O, B> {
     ghost use Rattle.corr_machine.specs.Machines as events;
     ghost use Rattle.corr_core.specs.Standing.{Value, StandFor};
     ghost use Rattle.corr_core.specs.Sends.{value_with, sent_together};
-    ghost use Rattle.corr_core.specs.Cores.{Steps, StepHasCause, event_of, IsInRange, IsNextOf};
+    ghost use Rattle.corr_core.specs.Cores.{Steps, StepHasCause, event_of, IsInRange, IsNextOf, KeepsEnds, EndsAfter};
 
     // Sends what goes with the value that was moved out.
     fn emit_value<E: Emit<Out = B::Out>, K: PacketSink>(
@@ -47,6 +47,7 @@ impl<O: Observation, B: Backend> Parts<O, B> {
         ensures steps { (value : Value) (state : State) → StandFor value self.old state
             → Steps value (E.strings self.old.plan) self.old self.new false state events.Send
             (K.sent sink.old) (K.sent sink.new) (E.tally emit.old) (E.tally emit.new) result }
+        ensures ends { KeepsEnds self.old self.new }
         ensures plan { self.new.plan ≡ self.old.plan }
         ensures emit_plan { E.of_plan emit.new ≡ self.old.plan }
         ensures begun { K.begun sink.new ≡ true }
@@ -81,6 +82,7 @@ impl<O: Observation, B: Backend> Parts<O, B> {
             → Steps (value_with (B.value backend.now) self.old.plan) (E.strings self.old.plan)
             self.old self.new false state (event_of event.entry)
             (K.sent sink.old) (K.sent sink.new) (E.tally emit.old) (E.tally emit.new) result }
+        ensures ends { EndsAfter self.old self.new event.entry result }
         ensures plan { self.new.plan ≡ self.old.plan }
         ensures emit_plan { E.of_plan emit.new ≡ self.old.plan }
         ensures begun { K.begun sink.new ≡ true }

@@ -8,6 +8,7 @@ use crate::parts::Parts;
 use corr_model::{Ending, Observation};
 use slot_column::Closed;
 use slot_ring::{Put, Ring};
+use stream_feed::StreamReport;
 use vis_back::Backend;
 
 // Whether a hand has a closed column.
@@ -33,6 +34,7 @@ impl<O: Observation, B: Backend> Parts<O, B> {
     ghost use Rattle.corr_machine.specs.Machines as events;
     ghost use Rattle.corr_core.specs.Parts.{feed_in, hand_in, takes_strings};
     ghost use Rattle.corr_core.specs.Standing.{Value, StandFor, Happens};
+    ghost use Rattle.corr_core.specs.Cores.{KeepsEnds, EndsByString, EndsAsSaid, end_of};
     ghost use Rattle.corr_core.specs.Changes.{TookString, TookEnd, FeedChanged, HandGot, HandFilled, HandPut};
 
     // Whether a stream takes strings: its hand is spare, it has not ended, and no column is due.
@@ -63,6 +65,7 @@ impl<O: Observation, B: Backend> Parts<O, B> {
             (feed_in self.old antenna).report.taken bytes.now }
         ensures happens { (value : Value) (state : State) → StandFor value self.old state
             → Happens value self.old.plan self.new state (events.Packet antenna bytes.now) result }
+        ensures ends { EndsByString self.old self.new antenna result }
         ensures plan { self.new.plan ≡ self.old.plan }
     {
         if !self.takes_strings(antenna as usize) {
@@ -79,7 +82,7 @@ impl<O: Observation, B: Backend> Parts<O, B> {
         requires how { (how ≡ Ending.End) ⊎ (how ≡ Ending.Fault) }
         requires last { O.names ≡ true → length (O.list (feed_in self.old antenna).columns.antenna)
             ≤ (feed_in self.old antenna).report.taken }
-        ensures { FeedChanged self.old self.new antenna (λ f g. TookEnd f g) }
+        ensures { FeedChanged self.old self.new antenna (λ f g. TookEnd f g how) }
     {
         self.feeds[antenna].end(how);
     }
@@ -93,6 +96,7 @@ impl<O: Observation, B: Backend> Parts<O, B> {
             ≤ (feed_in self.old antenna).report.taken }
         ensures happens { (value : Value) (state : State) → StandFor value self.old state
             → Happens value self.old.plan self.new state (events.End antenna) result }
+        ensures ends { EndsAsSaid self.old self.new antenna how result }
         ensures plan { self.new.plan ≡ self.old.plan }
     {
         if !self.takes_strings(antenna as usize) {
@@ -127,6 +131,7 @@ impl<O: Observation, B: Backend> Parts<O, B> {
         requires in_range { antenna < self.old.plan.antennas }
         ensures fills { (value : Value) (state : State) → StandFor value self.old state
             → HandFilled value self.old self.new antenna state }
+        ensures ends { KeepsEnds self.old self.new }
         ensures plan { self.new.plan ≡ self.old.plan }
     {
         if self.can_give(antenna) {
@@ -156,6 +161,7 @@ impl<O: Observation, B: Backend> Parts<O, B> {
         requires in_range { antenna < self.old.plan.antennas }
         ensures happens { (value : Value) (state : State) → StandFor value self.old state
             → Happens value self.old.plan self.new state (events.Put antenna) result }
+        ensures ends { KeepsEnds self.old self.new }
         ensures plan { self.new.plan ≡ self.old.plan }
     {
         self.fill_hand(antenna as usize);
@@ -163,5 +169,21 @@ impl<O: Observation, B: Backend> Parts<O, B> {
             return false;
         }
         self.place(antenna as usize)
+    }
+
+    /// The report on a stream.
+    pub(crate) fn report(&self, antenna: u32) -> StreamReport
+        requires { antenna < self.now.plan.antennas }
+        ensures { result ≡ (feed_in self.now antenna).report }
+    {
+        self.feeds[antenna as usize].report()
+    }
+
+    /// How a stream ended, where it has.
+    pub(crate) fn ended(&self, antenna: u32) -> Option<Ending>
+        requires { antenna < self.now.plan.antennas }
+        ensures { result ≡ end_of self.now antenna }
+    {
+        self.feeds[antenna as usize].ended()
     }
 }

@@ -112,18 +112,33 @@ fn sent_by(
 {
     let prepared = prepare::<Unheard>(alloc, plan).map_err(|_| Fail::from("no memory"))?;
     let mut core = Core::new(prepared);
-    let mut sink = Kept {
+    let mut sink = new_sink(room);
+    take_steps(&mut core, &mut sink, order)?;
+    Ok(sink)
+}
+
+// A sink that takes so many strings.
+fn new_sink(room: u64) -> Kept {
+    Kept {
         bytes: [0; 936],
         len: 0,
         room,
         faults: 0,
-    };
+    }
+}
+
+// These events, each of which has to give the answer said.
+fn take_steps(
+    core: &mut Core<Unheard>,
+    sink: &mut Kept,
+    order: &[(Event<'_>, Stepped)],
+) -> Result<(), Fail> {
     for (event, answer) in order {
-        if !event.is_in_range(core.plan()) || core.step(*event, &mut sink) != *answer {
+        if !event.is_in_range(core.plan()) || core.step(*event, sink) != *answer {
             return Err(Fail::from("another answer"));
         }
     }
-    Ok(sink)
+    Ok(())
 }
 
 // The bytes that were sent.
@@ -277,5 +292,33 @@ fn after_a_sink_fault_every_event_is_idle(rt: HostRuntime) -> Result<(), Fail> {
     let sent = sent_by(rt.alloc(), &SHORT_RING, &order, 1)?;
     // The descriptor heap alone.
     assert_eq!(rt; sent.len, 352);
+    Ok(())
+}
+
+#[test]
+fn a_core_tells_how_its_streams_ended(rt: HostRuntime) -> Result<(), Fail> {
+    let order = [
+        (Event::Packet(0, HEAPS[0]), Stepped::Moved),
+        (Event::End(0, Ending::Fault), Stepped::Moved),
+        (Event::End(1, Ending::End), Stepped::Moved),
+        (Event::Put(0), Stepped::Moved),
+        (Event::Put(1), Stepped::Moved),
+        (Event::Take(0, 0), Stepped::Moved),
+        (Event::Store(0), Stepped::Moved),
+        (Event::Send, Stepped::Moved),
+    ];
+    let prepared = prepare::<Unheard>(rt.alloc(), &SHORT_RING).map_err(|_| Fail::from(
+        "no memory",
+    ))?;
+    let mut core = Core::new(prepared);
+    take_steps(&mut core, &mut new_sink(4), &order)?;
+    if core.plan().antennas != 2 {
+        return Err(Fail::from("another plan"));
+    }
+    assert_eq!(rt; core.report(0).used, 1);
+    assert_eq!(rt; core.ended(0), Some(Ending::Fault));
+    assert_eq!(rt; core.ended(1), Some(Ending::End));
+    // The descriptor heap and one visibility heap.
+    assert_eq!(rt; core.sent().bytes, 620);
     Ok(())
 }

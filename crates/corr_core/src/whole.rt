@@ -1,16 +1,17 @@
 //! A whole core: its parts, its back end and its emitter.
 
-ghost use Rattle.std.specs.Prelude.{◌≡◌, true, false};
+ghost use Rattle.std.specs.Prelude.{◌≡◌, ◌<◌, true, false};
 
 use crate::event::{Event, Stepped};
 use crate::parts::Parts;
 use crate::prepared::PreparedOf;
-use corr_model::{Observation, Plan};
+use corr_model::{Ending, Observation, Plan};
 use corr_site::PacketSink;
 use std::marker::Model;
+use stream_feed::StreamReport;
 use vis_accum::Cross;
 use vis_back::Backend;
-use vis_send::{Emit, Sender};
+use vis_send::{Emit, Sender, Sent};
 
 /// The core of a run, over any back end and emitter: one feed and one hand for each antenna, the
 /// ring of accumulations, works, the value that goes out, and the emitter.
@@ -45,7 +46,8 @@ impl<O: Observation, B: Backend, E: Emit<Out = B::Out>> CoreOf<O, B, E> {
     ghost use Rattle.corr_machine.specs.Machines.{State, opening};
     ghost use Rattle.corr_core.specs.Standing.{StandFor};
     ghost use Rattle.corr_core.specs.Sends.{value_with};
-    ghost use Rattle.corr_core.specs.Cores.{Steps, StepHasCause, has_failed, event_of, IsInRange, IsNextOf};
+    ghost use Rattle.corr_core.specs.Cores.{Steps, StepHasCause, has_failed, event_of, IsInRange, IsNextOf, EndsAfter, end_of};
+    ghost use Rattle.corr_core.specs.Parts.{feed_in};
 
     /// The core of these parts, before its first event: it stands for the machine's opening.
     pub fn new(prepared: PreparedOf<O, B, E>) -> CoreOf<O, B, E>
@@ -84,9 +86,33 @@ impl<O: Observation, B: Backend, E: Emit<Out = B::Out>> CoreOf<O, B, E> {
         &self.parts.plan
     }
 
+    /// The report on a stream.
+    pub fn report(&self, antenna: u32) -> StreamReport
+        requires { antenna < self.now.parts.plan.antennas }
+        ensures { result ≡ (feed_in self.now.parts antenna).report }
+    {
+        self.parts.report(antenna)
+    }
+
+    /// How a stream ended, where it has.
+    pub fn ended(&self, antenna: u32) -> Option<Ending>
+        requires { antenna < self.now.parts.plan.antennas }
+        ensures { result ≡ end_of self.now.parts antenna }
+    {
+        self.parts.ended(antenna)
+    }
+
+    /// What was sent: how many byte strings, how many bytes, and their mark.
+    pub fn sent(&self) -> Sent
+        ensures { result ≡ E.tally self.now.emit }
+    {
+        self.emit.sent()
+    }
+
     /// One event. It moves exactly where it is enabled, unless the sink fails at it; it is idle
     /// exactly where it is not enabled or the sink failed before. Only a Send sends, and `Failed`
-    /// comes only where the sink's count of faults rose.
+    /// comes only where the sink's count of faults rose. A stream that ended says how: by itself, or as
+    /// its End was said.
     ///
     /// Where the observation names its lists, the string of a Packet that the stream takes is the
     /// next of its list, and an End that it takes comes after the last.
@@ -101,6 +127,7 @@ impl<O: Observation, B: Backend, E: Emit<Out = B::Out>> CoreOf<O, B, E> {
             (E.strings self.old.parts.plan) self.old.parts self.new.parts self.old.failed
             state (event_of event.entry) (K.sent sink.old) (K.sent sink.new)
             (E.tally self.old.emit) (E.tally self.new.emit) result }
+        ensures ends { EndsAfter self.old.parts self.new.parts event.entry result }
         ensures plan { self.new.parts.plan ≡ self.old.parts.plan }
         ensures backend { self.new.backend ≡ self.old.backend }
         ensures failed { self.new.failed ≡ has_failed self.old.failed result }

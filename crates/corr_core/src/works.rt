@@ -45,6 +45,7 @@ impl<O: Observation, B: Backend> Parts<O, B> {
     ghost use Rattle.corr_machine.specs.Machines as events;
     ghost use Rattle.corr_core.specs.Parts.{work_in};
     ghost use Rattle.corr_core.specs.Standing.{Value, StandFor, Happens};
+    ghost use Rattle.corr_core.specs.Cores.{KeepsEnds};
     ghost use Rattle.corr_core.specs.Changes.{SlotTaken, ResultStored, Releases, SendsNext};
 
     // Whether a work is free. One that is not has computed its value.
@@ -77,6 +78,7 @@ impl<O: Observation, B: Backend> Parts<O, B> {
             → StandFor (value_with (B.value backend.now) self.old.plan) self.old state
             → Happens (value_with (B.value backend.now) self.old.plan) self.old.plan self.new state
             (events.Take work slot) result }
+        ensures ends { KeepsEnds self.old self.new }
         ensures plan { self.new.plan ≡ self.old.plan }
     {
         if !self.is_free(work as usize) {
@@ -99,6 +101,7 @@ impl<O: Observation, B: Backend> Parts<O, B> {
         requires in_range { work < work_count self.old.plan }
         ensures happens { (value : Value) (state : State) → StandFor value self.old state
             → Happens value self.old.plan self.new state (events.Store work) result }
+        ensures ends { KeepsEnds self.old self.new }
         ensures plan { self.new.plan ≡ self.old.plan }
     {
         if self.is_free(work as usize) {
@@ -126,6 +129,7 @@ impl<O: Observation, B: Backend> Parts<O, B> {
     pub(crate) fn next_value(&mut self) -> bool
         ensures next { (value : Value) (state : State) → StandFor value self.old state
             → SendsNext value self.old self.new state result }
+        ensures ends { KeepsEnds self.old self.new }
         ensures number { result ≡ true → self.new.outgoing.number ≡ self.old.sent }
         ensures below { result ≡ true → self.old.sent < self.old.plan.accumulations }
         ensures plan { self.new.plan ≡ self.old.plan }

@@ -1,6 +1,7 @@
 use Rattle.std.proofs.Common.{◌≡◌, ◌<◌, ◌≤◌, subst, arith}
 use Rattle.corr_core.specs.Parts.{PartsView}
 use Rattle.corr_core.proofs.WorkLemmas.{send_past, release_is, some_antennas}
+use Rattle.corr_core.proofs.EndLemmas.{released_ends}
 use Rattle.corr_core.proofs.parts.Parts.next_value.Goals as goal
 
 pub returns-then-self-from-clause-next : goal.returns-then-self-from-clause-next
@@ -13,3 +14,6 @@ pub returns-clause-next : goal.returns-clause-next
 returns-clause-next g c = λ value state h.
     release_is value c.args.self.now c.release.new.self state c.release.result h
     (subst (λ (k : PartsView). k.outgoing.plan ≡ k.plan) c.self.view_is c.self.invariant.outgoing_plan) c.release.ensures
+
+pub returns-clause-ends : goal.returns-clause-ends
+returns-clause-ends g c = released_ends c.args.self.now c.release.new.self c.release.result c.release.ensures

@@ -4,6 +4,7 @@ use Rattle.corr_machine.specs.Machines.{Put}
 use Rattle.corr_core.specs.Parts.{hand_in}
 use Rattle.corr_core.specs.Standing.{Happens}
 use Rattle.corr_core.proofs.PutLemmas.{put_waits, put_happens}
+use Rattle.corr_core.proofs.EndLemmas.{put_ends}
 use Rattle.corr_core.proofs.parts.Parts.put.Goals as goal
 
 pub returns-then-not-has_column-clause-happens : goal.returns-then-not-has_column-clause-happens
@@ -19,3 +20,6 @@ returns-clause-happens g c = λ value state h.
     let few = subst (λ (p : Plan). c.args.antenna < p.antennas) (sym c.fill_hand.ensures.plan) c.requires.in_range in
     subst (λ p. Happens value p c.place.new.self state (Put c.args.antenna) c.place.result) c.fill_hand.ensures.plan
     (put_happens value c.fill_hand.new.self c.place.new.self state c.args.antenna c.place.result filled.stands_for few closed c.place.ensures)
+
+pub returns-clause-ends : goal.returns-clause-ends
+returns-clause-ends g c = put_ends c.args.self.now c.fill_hand.new.self c.place.new.self c.args.antenna c.place.result c.fill_hand.ensures.ends c.place.ensures

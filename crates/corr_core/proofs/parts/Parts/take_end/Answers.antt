@@ -27,5 +27,5 @@ returns g c =
     let few : a < seen.plan.antennas = omega (arith, c.requires.in_range, same) in
     let low : a < length seen.feeds = omega (arith, few, c.self.invariant.feed_count) in
     let read : c.index_mut.result.now ≡ feed_in seen a = c.index_mut.ensures.value ∙ get_or_default seen.feeds a _ (no_feed seen.plan) low in
-    feed_changed seen c.args.self.now a c.index_mut.result.now c.end.new.self (λ f g. TookEnd f g) c.self.view_is read
-    (record { stood = c.end.ensures.stands; ended = ap (λ (r : StreamReport). is_some r.ended) c.end.ensures.ended; same = c.end.ensures.same })
+    feed_changed seen c.args.self.now a c.index_mut.result.now c.end.new.self (λ f g. TookEnd f g c.args.how) c.self.view_is read
+    (record { stood = c.end.ensures.stands; ended = ap (λ (r : StreamReport). is_some r.ended) c.end.ensures.ended; said = ap (λ (r : StreamReport). r.ended) c.end.ensures.ended; same = c.end.ensures.same })
