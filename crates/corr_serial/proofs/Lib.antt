@@ -1,9 +1,11 @@
-pub mod HearLemmas
 pub mod SetLemmas
 pub mod SourceLemmas
-pub mod StreamLemmas
-pub mod LoopLemmas
-pub mod ValueLemmas
+pub mod HearLemmas
+pub mod StepLemmas
+pub mod RoundLemmas
+pub mod ListenLemmas
+pub mod TurnLemmas
+pub mod GatherLemmas
 pub mod RunLemmas
 pub mod OutcomeLemmas
 pub mod SerialLemmas

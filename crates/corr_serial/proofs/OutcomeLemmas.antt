@@ -25,7 +25,9 @@ use Rattle.corr_serial.specs.Hearing.{is_over, is_fault, HasHeard, IsFront, Hear
 use Rattle.corr_serial.specs.Outputs.{Meaning, output_by}
 use Rattle.corr_serial.specs.Streams.{AreHeard, AllGoOn, AreOver}
 use Rattle.corr_serial.specs.Runs.{RunsWhole, RunsFront, Runs, AreGiven, GaveTaken, NoneRose, IsWhole, SendsBy, SendsSome, RanHasCause, IsReportOf, AreReports, AreWholeReports, AreReportsOf, Concludes, GoOnFrom, IsFirst, IsFirstFault, list_of, ran_as}
-use Rattle.corr_serial.proofs.StreamLemmas.{Told}
+
+abbrev pub Told : Type 0 → Type 0
+Told S = S → Option (List (List ℕ))
 
 -- an element of a list that has one
 pub some_of : {S : Type 0} (xs : List S) → 0 < length xs → S

@@ -1,11 +1,10 @@
 -- What a stream took of its source, and the lists that go on from there. This project's own.
-use Rattle.std.specs.Prelude.{◌≡◌, ℕ, ◌-◌, ◌<◌, ◌≤◌, Bool, true, false, if◌then◌else◌, List, [], ◌++◌, length, take, Option, Some, None, is_some}
+use Rattle.std.specs.Prelude.{◌≡◌, ℕ, ◌-◌, ◌≤◌, Bool, true, false, if◌then◌else◌, List, [], ◌++◌, length, take, Option, Some, None, is_some}
 use Rattle.corr_model.specs.declared.plan.Plan.{Plan}
 use Rattle.corr_model.specs.declared.verdict.Ending.{Ending}
 use Rattle.corr_model.specs.declared.verdict.Ending.TheVariants as endings
 use Rattle.corr_model.specs.Streams.{taken}
-use Rattle.slot_column.specs.Columns.{Hand}
-use Rattle.stream_feed.specs.Feeding.{FeedState, StandsFor, column_of, is_said}
+use Rattle.stream_feed.specs.Feeding.{FeedState, StandsFor, is_said}
 use Rattle.corr_serial.specs.Sources.{RisesIf}
 
 -- the stream has ended
@@ -31,18 +30,6 @@ pub record HasHeard (plan : Plan) (antenna : ℕ) (f : FeedState) (strings : Lis
   pub stands : StandsFor f strings
   pub counts : taken plan strings ≡ strings
 
--- it is one of an antenna of the plan that gave so many columns, and stands for some strings, which all count
-pub record IsFed (plan : Plan) (antenna given : ℕ) (f : FeedState) : Type 0 where
-  pub strings : List (List ℕ)
-  pub heard : HasHeard plan antenna f strings
-  pub given_is : f.columns.given ≡ given
-
--- it is one of an antenna of the plan that took nothing yet
-pub record IsNew (plan : Plan) (antenna : ℕ) (f : FeedState) : Type 0 where
-  pub heard : HasHeard plan antenna f []
-  pub given_is : f.columns.given ≡ 0
-  pub goes_on : f.report.ended ≡ None
-
 -- the strings are the first of those that a source gives: so many of them, and all where their end was said
 pub record IsFront (all : List (List ℕ)) (given : ℕ) (ended : Option Ending) (strings : List (List ℕ)) : Type 0 where
   pub front : strings ≡ take given all
@@ -61,24 +48,3 @@ pub record GoesOn (plan : Plan) (strings : List (List ℕ)) (over : Bool) (all :
   pub rest : List (List ℕ)
   pub is : all ≡ strings ++ rest
   pub whole : over ≡ true → taken plan all ≡ strings
-
--- it heard more: what goes on from there goes on from where it was
-pub record HearsOn (plan : Plan) (antenna : ℕ) (gives : Option (List (List ℕ))) (given_before given faults_before faults : ℕ) (old new : FeedState) (strings : List (List ℕ)) : Type 0 where
-  pub more : List (List ℕ)
-  pub hears : Hears plan antenna gives given_before given faults_before faults new more
-  pub goes_on : (all : List (List ℕ)) → GoesOn plan more (is_over new) all → GoesOn plan strings (is_over old) all
-
--- it heard until a column was due, and gave that to the hand: it is the column of each list that goes on from there
-pub record Closes (plan : Plan) (antenna : ℕ) (gives : Option (List (List ℕ))) (given_before given faults_before faults : ℕ) (old new : FeedState) (hand : Hand) (strings : List (List ℕ)) : Type 0 where
-  pub on : HearsOn plan antenna gives given_before given faults_before faults old new strings
-  pub column : (all : List (List ℕ)) → GoesOn plan on.more (is_over new) all → hand.column ≡ column_of plan antenna all old.columns.given
-
--- whatever it heard of its source before, it hears more
-abbrev pub HearsMore : Plan → Option (List (List ℕ)) → ℕ → ℕ → ℕ → ℕ → FeedState → FeedState → Type 0
-HearsMore plan gives given faults given_now faults_now old new =
-    (antenna first fault : ℕ) (l : List (List ℕ)) → Hears plan antenna gives first given fault faults old l → HearsOn plan antenna gives first given_now fault faults_now old new l
-
--- and gives a column to the hand
-abbrev pub ClosesMore : Plan → Option (List (List ℕ)) → ℕ → ℕ → ℕ → ℕ → FeedState → FeedState → Hand → Type 0
-ClosesMore plan gives given faults given_now faults_now old new hand =
-    (antenna first fault : ℕ) (l : List (List ℕ)) → Hears plan antenna gives first given fault faults old l → Closes plan antenna gives first given_now fault faults_now old new hand l

@@ -3,3 +3,6 @@ pub mod Hearing
 pub mod Outputs
 pub mod Streams
 pub mod Runs
+pub mod Rounds
+pub mod Going
+pub mod Preparing

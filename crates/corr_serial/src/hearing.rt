@@ -1,122 +1,88 @@
-//! Byte strings of one source into the feed of its stream.
+//! Byte strings of the sources into the core.
 
-ghost use Rattle.std.specs.Prelude.{◌≡◌, ◌<◌, ◌+◌, ℕ, None, true, is_some, is_none};
+ghost use Rattle.std.specs.Prelude.{◌≡◌, ◌<◌, ◌≤◌, ℕ, true, length};
 ghost use Rattle.corr_model.specs.declared.plan.Plan.{Plan};
-ghost use Rattle.stream_feed.specs.Feeding.{due_of};
-ghost use Rattle.vis_back.specs.Sets.{IsFor};
-ghost use Rattle.corr_serial.specs.Sources.{KeepsSource};
-ghost use Rattle.corr_serial.specs.Hearing.{IsFed, HearsMore, ClosesMore, is_over, left};
+ghost use Rattle.corr_machine.specs.Machines.{State, stream_at, is_ready};
+ghost use Rattle.corr_serial.specs.Sources.{AreBegun, KeepsSource, KeepsSources};
+ghost use Rattle.corr_serial.specs.Going.{IsAt, ListensOn, HearsNext};
 
-use corr_model::{Observation, Plan, Unheard};
-use corr_site::{Next, PacketSource};
-use slot_column::Closed;
-use stream_feed::{Ending, Feed};
+use corr_core::{CoreOf, Event};
+use corr_model::{Ending, Observation, Unheard};
+use corr_site::{Next, PacketSink, PacketSource};
+use vis_back::Backend;
+use vis_send::Emit;
 
-// The feed takes the next byte string of its source, or the end where there is none.
-fn hear<O: Observation, S: PacketSource<O>>(
-    feed: &mut Feed<Unheard>,
+// A stream takes the next byte string of its source, or the end where there is none.
+fn listen<O: Observation, B: Backend, E: Emit<Out = B::Out>, S: PacketSource<O>, K: PacketSink>(
+    core: &mut CoreOf<Unheard, B, E>,
+    antenna: u32,
     source: &mut S,
+    sink: &mut K,
     buf: &mut [u8; 65536],
 )
-    requires goes_on { feed.old.report.ended ≡ None }
-    requires none_due { due_of feed.old ≡ None }
+    requires in_range { antenna < core.old.parts.plan.antennas }
     requires begun { S.begun source.old ≡ true }
+    requires sink { K.begun sink.old ≡ true }
+    ensures listens { (plan : Plan) (backend : B) (number turn : ℕ) (state : State)
+        → IsAt B.value plan backend core.old number turn state
+        → is_ready plan antenna (stream_at state antenna) ≡ true
+        → ListensOn B.value plan backend core.old core.new number turn state antenna
+        (S.gives source.old) (S.given source.old) (S.given source.new)
+        (S.faults source.old) (S.faults source.new) (K.sent sink.old) (K.sent sink.new)
+        (E.tally core.old.emit) (E.tally core.new.emit) }
     ensures source { KeepsSource S.begun S.at S.gives S.belongs source.old source.new }
-    ensures fed { (plan : Plan) (antenna given : ℕ) → IsFed plan antenna given feed.old
-        → IsFed plan antenna given feed.new × (left feed.new < left feed.old) }
-    ensures hears { (plan : Plan) → HearsMore plan (S.gives source.old)
-        (S.given source.old) (S.faults source.old) (S.given source.new) (S.faults source.new)
-        feed.old feed.new }
+    ensures plan { core.new.parts.plan ≡ core.old.parts.plan }
+    ensures backend { core.new.backend ≡ core.old.backend }
+    ensures sink_begun { K.begun sink.new ≡ true }
+    ensures sink_at { K.at sink.new ≡ K.at sink.old }
+    ensures calm { K.faults sink.new ≡ K.faults sink.old }
 {
     match source.next(buf) {
         Next::Packet(len) => {
             let (bytes, _) = buf.split_at(len);
-            feed.packet(bytes);
+            core.step(Event::Packet(antenna, bytes), sink);
         }
-        Next::End => feed.end(Ending::End),
-        Next::Failed => feed.end(Ending::Fault),
+        Next::End => {
+            core.step(Event::End(antenna, Ending::End), sink);
+        }
+        Next::Failed => {
+            core.step(Event::End(antenna, Ending::Fault), sink);
+        }
     }
 }
 
-// Whether no column is due.
-fn is_waiting(feed: &Feed<Unheard>) -> bool
-    ensures { result ≡ is_none (due_of feed.now) }
-{
-    feed.due().is_none()
-}
-
-// Whether the stream goes on.
-fn is_open(feed: &Feed<Unheard>) -> bool
-    ensures { result ≡ is_none feed.now.report.ended }
-{
-    feed.ended().is_none()
-}
-
-// The feed takes byte strings of its source until a column is due.
-fn hear_until_due<O: Observation, S: PacketSource<O>>(
-    plan: &Plan,
-    feed: &mut Feed<Unheard>,
-    source: &mut S,
+/// The stream of an antenna takes the next byte string of its source, or the end where there is
+/// none.
+pub(crate) fn hear<
+    O: Observation,
+    B: Backend,
+    E: Emit<Out = B::Out>,
+    S: PacketSource<O>,
+    K: PacketSink,
+>(
+    core: &mut CoreOf<Unheard, B, E>,
+    antenna: u32,
+    sources: &mut [S],
+    sink: &mut K,
     buf: &mut [u8; 65536],
 )
-    requires fed { IsFed plan.now feed.old.columns.antenna feed.old.columns.given feed.old }
-    requires more { feed.old.columns.given < plan.now.accumulations }
-    requires begun { S.begun source.old ≡ true }
-    ensures due { is_some (due_of feed.new) ≡ true }
-    ensures source { KeepsSource S.begun S.at S.gives S.belongs source.old source.new }
-    ensures fed { IsFed plan.now feed.old.columns.antenna feed.old.columns.given feed.new }
-    ensures hears { HearsMore plan.now (S.gives source.old)
-        (S.given source.old) (S.faults source.old) (S.given source.new) (S.faults source.new)
-        feed.old feed.new }
+    requires in_range { antenna < core.old.parts.plan.antennas }
+    requires enough { core.old.parts.plan.antennas ≤ length sources.old }
+    requires begun { AreBegun S.begun core.old.parts.plan.antennas sources.old }
+    requires sink { K.begun sink.old ≡ true }
+    ensures hears { (plan : Plan) (backend : B) (number turn : ℕ) (state : State)
+        → IsAt B.value plan backend core.old number turn state
+        → is_ready plan antenna (stream_at state antenna) ≡ true
+        → HearsNext B.value S.gives S.given S.faults plan backend sources.old sources.new
+        core.old core.new number turn state antenna (K.sent sink.old) (K.sent sink.new)
+        (E.tally core.old.emit) (E.tally core.new.emit) }
+    ensures sources { KeepsSources S.begun S.at S.gives S.belongs core.old.parts.plan.antennas
+        sources.old sources.new }
+    ensures plan { core.new.parts.plan ≡ core.old.parts.plan }
+    ensures backend { core.new.backend ≡ core.old.backend }
+    ensures sink_begun { K.begun sink.new ≡ true }
+    ensures sink_at { K.at sink.new ≡ K.at sink.old }
+    ensures calm { K.faults sink.new ≡ K.faults sink.old }
 {
-    'strings: while is_waiting(feed) {
-        hear(feed, source, buf);
-    }
-}
-
-/// The feed takes byte strings of its source until its next column is due, and gives that to the
-/// hand.
-pub(crate) fn close_column<O: Observation, S: PacketSource<O>>(
-    plan: &Plan,
-    feed: &mut Feed<Unheard>,
-    hand: &mut Closed<Unheard>,
-    source: &mut S,
-    buf: &mut [u8; 65536],
-)
-    requires fed { IsFed plan.now feed.old.columns.antenna feed.old.columns.given feed.old }
-    requires more { feed.old.columns.given < plan.now.accumulations }
-    requires hand { hand.old.column.plan ≡ plan.now }
-    requires begun { S.begun source.old ≡ true }
-    ensures source { KeepsSource S.begun S.at S.gives S.belongs source.old source.new }
-    ensures fed { IsFed plan.now feed.old.columns.antenna (feed.old.columns.given + 1) feed.new }
-    ensures closed { hand.new.is_closed ≡ true }
-    ensures hand { IsFor plan.now feed.old.columns.antenna feed.old.columns.given hand.new }
-    ensures closes { ClosesMore plan.now (S.gives source.old)
-        (S.given source.old) (S.faults source.old) (S.given source.new) (S.faults source.new)
-        feed.old feed.new hand.new }
-{
-    hand.free();
-    hear_until_due(plan, feed, source, buf);
-    feed.give(hand);
-}
-
-/// The feed takes byte strings of its source until its stream ends.
-pub(crate) fn hear_out<O: Observation, S: PacketSource<O>>(
-    plan: &Plan,
-    feed: &mut Feed<Unheard>,
-    source: &mut S,
-    buf: &mut [u8; 65536],
-)
-    requires fed { IsFed plan.now feed.old.columns.antenna plan.now.accumulations feed.old }
-    requires begun { S.begun source.old ≡ true }
-    ensures over { is_over feed.new ≡ true }
-    ensures source { KeepsSource S.begun S.at S.gives S.belongs source.old source.new }
-    ensures fed { IsFed plan.now feed.old.columns.antenna plan.now.accumulations feed.new }
-    ensures hears { HearsMore plan.now (S.gives source.old)
-        (S.given source.old) (S.faults source.old) (S.given source.new) (S.faults source.new)
-        feed.old feed.new }
-{
-    'strings: while is_open(feed) {
-        hear(feed, source, buf);
-    }
+    listen::<O, B, E, S, K>(core, antenna, &mut sources[antenna as usize], sink, buf);
 }

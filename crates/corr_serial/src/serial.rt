@@ -2,34 +2,36 @@
 
 ghost use Rattle.std.specs.Prelude.{◌≡◌, ◌≤◌, ◌<◌, ℕ, List, Some, None, true, length};
 ghost use Rattle.corr_model.specs.Outputs.{output};
-ghost use Rattle.corr_model.specs.Plans.{Fits};
 ghost use Rattle.corr_model.specs.Visibilities.{Lists};
 ghost use Rattle.corr_site.specs.Outside.{Rose};
-ghost use Rattle.vis_send.specs.Marks.{nothing};
 ghost use Rattle.corr_serial.specs.Sources.{AreBegun, AreSameFrom, KeepsEach, KeepsBelonging, KeepsSources};
 ghost use Rattle.corr_serial.specs.Hearing.{is_fault};
-ghost use Rattle.corr_serial.specs.Outputs.{HasShape, output_by};
-ghost use Rattle.corr_serial.specs.Streams.{AreNew, AreHands};
+ghost use Rattle.corr_serial.specs.Outputs.{output_by};
+ghost use Rattle.corr_serial.specs.Preparing.{IsPrepared};
 ghost use Rattle.corr_serial.specs.Runs.{AreGiven, GaveTaken, NoneRose, IsWhole, SendsBy, SendsSome, SendsOutput, Concludes, GoOnFrom, RanHasCause, AreReports, AreWholeReports, AreReportsOf, IsFirstFault, ran_as, list_of};
 
 use crate::outcome::{Outcome, Ran, Reports};
 use crate::prepared::Prepared;
 use crate::running::run;
-use corr_model::{Observation, Plan, Unheard};
+use corr_core::CoreOf;
+use corr_model::{Observation, Unheard};
 use corr_site::{PacketSink, PacketSource};
-use slot_column::Closed;
-use stream_feed::{Ending, Feed, StreamReport};
+use stream_feed::{Ending, StreamReport};
 use vis_accum::Cross;
 use vis_back::Backend;
 use vis_send::{Emit, Sender};
 
-// Takes the report of each feed.
-fn take_reports(feeds: &[Feed<Unheard>], reports: &mut [StreamReport])
-    requires { length reports.old ≡ length feeds.now }
-    ensures { AreReportsOf feeds.now reports.new }
+// Takes the report on each stream.
+fn take_reports<B: Backend, E: Emit<Out = B::Out>>(
+    core: &CoreOf<Unheard, B, E>,
+    reports: &mut [StreamReport],
+)
+    requires reports { length reports.old ≡ core.now.parts.plan.antennas }
+    requires feeds { length core.now.parts.feeds ≡ core.now.parts.plan.antennas }
+    ensures { AreReportsOf core.now.parts.feeds reports.new }
 {
-    for antenna in 0..feeds.len() {
-        reports[antenna] = feeds[antenna].report();
+    for antenna in 0..core.plan().antennas {
+        reports[antenna as usize] = core.report(antenna);
     }
 }
 
@@ -64,7 +66,7 @@ pub fn ran_as(is_whole: bool, fault: Option<u32>) -> Ran
     }
 }
 
-// The run over a plan's parts: how it ended. The reports are taken.
+// The run over a core: how it ended. The reports are taken.
 fn run_reported<
     O: Observation,
     B: Backend,
@@ -72,45 +74,34 @@ fn run_reported<
     S: PacketSource<O>,
     K: PacketSink,
 >(
-    plan: &Plan,
-    feeds: &mut [Feed<Unheard>],
-    hands: &mut [Closed<Unheard>],
+    core: &mut CoreOf<Unheard, B, E>,
     reports: &mut [StreamReport],
-    backend: &B,
-    out: &mut B::Out,
-    emit: &mut E,
     sources: &mut [S],
     sink: &mut K,
 ) -> Ran
-    requires fits { Fits plan.now }
-    requires new { AreNew plan.now feeds.old }
-    requires hands { AreHands plan.now hands.old }
-    requires one_each { length reports.old ≡ plan.now.antennas }
-    requires suits { B.serves backend.now plan.now ≡ true }
-    requires out { HasShape plan.now (B.size plan.now) (B.Out.shown out.old) }
-    requires emit { E.of_plan emit.old ≡ plan.now }
-    requires sent { E.tally emit.old ≡ nothing }
-    requires enough { plan.now.antennas ≤ length sources.old }
-    requires begun { AreBegun S.begun plan.now.antennas sources.old }
+    requires prepared { IsPrepared B.value core.old (E.tally core.old.emit) (length reports.old) }
+    requires enough { core.old.parts.plan.antennas ≤ length sources.old }
+    requires begun { AreBegun S.begun core.old.parts.plan.antennas sources.old }
     requires sink { K.begun sink.old ≡ true }
-    ensures sources { KeepsSources S.begun S.at S.gives S.belongs plan.now.antennas
+    ensures sources { KeepsSources S.begun S.at S.gives S.belongs core.old.parts.plan.antennas
         sources.old sources.new }
     ensures begun { K.begun sink.new ≡ true }
     ensures at { K.at sink.new ≡ K.at sink.old }
     ensures concludes { Concludes
-        (record { strings = E.strings plan.now; value = B.value backend.now plan.now })
-        plan.now S.gives S.given S.faults sources.old sources.new reports.new
-        (K.sent sink.old) (K.sent sink.new) (E.tally emit.new)
+        (record { strings = E.strings core.old.parts.plan; value = B.value core.old.backend core.old.parts.plan })
+        core.old.parts.plan S.gives S.given S.faults sources.old sources.new reports.new
+        (K.sent sink.old) (K.sent sink.new) (E.tally core.new.emit)
         (K.faults sink.old) (K.faults sink.new) result }
 {
-    let answer = run::<O, B, E, S, K>(plan, feeds, hands, backend, out, emit, sources, sink);
-    take_reports(feeds, reports);
+    let answer = run::<O, B, E, S, K>(core, sources, sink);
+    take_reports(core, reports);
     ran_as(answer.is_ok(), first_fault(reports))
 }
 
 /// The serial run: for each accumulation in order and each antenna in order, byte strings of its
-/// source are taken until its column is due; the value of the columns of all antennas is sent; and
-/// when all were sent, each stream that has not ended is taken to its end. It takes no memory.
+/// source are taken until its column is in the ring; the value of the columns of all antennas is
+/// sent; and when all were sent, each stream that has not ended is taken to its end. It takes no
+/// memory.
 ///
 /// A source that fails ends its own stream alone. `SinkFault` comes at once, and a front of the
 /// output was sent.
@@ -166,30 +157,13 @@ pub fn serial_with<
         → (Rose (K.faults sink.old) (K.faults sink.new) → ⊥) → result.ran ≡ Ran.Done }
 {
     let Prepared {
-        plan,
-        feeds,
-        mut hands,
+        mut core,
         mut reports,
-        mut out,
-        backend,
-        mut emit,
-        ..
     } = prepared;
-    let mut feeds = feeds.into_list();
-    let ran = run_reported::<O, B, E, S, K>(
-        &plan,
-        &mut feeds,
-        &mut hands,
-        &mut reports,
-        &backend,
-        &mut out,
-        &mut emit,
-        sources,
-        sink,
-    );
+    let ran = run_reported::<O, B, E, S, K>(&mut core, &mut reports, sources, sink);
     Outcome {
         ran,
-        sent: emit.sent(),
+        sent: core.sent(),
         reports: Reports::of(reports),
     }
 }

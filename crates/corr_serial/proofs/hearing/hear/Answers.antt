@@ -1,23 +1,22 @@
-use Rattle.corr_serial.proofs.HearLemmas.{hears_string, fed_string, hears_end, fed_end, at_end, at_failure}
+use Rattle.std.proofs.Common.{◌<◌, length, get_or, ap, arith}
+use Rattle.corr_serial.proofs.SourceLemmas.{sources_as_they_were, sources_on}
+use Rattle.corr_serial.proofs.ListenLemmas.{hears_among, few_in}
 use Rattle.corr_serial.proofs.hearing.hear.Goals as goal
 
-pub returns-in-Packet-clause-fed : goal.returns-in-Packet-clause-fed
-returns-in-Packet-clause-fed g c = λ plan antenna given h. fed_string plan antenna given _ _ _ c.requires.goes_on h c.packet.ensures.stands c.packet.ensures.same c.packet.ensures.taken
+pub returns-clause-hears : goal.returns-clause-hears
+returns-clause-hears g c = λ plan backend number turn state at ready.
+    let S = g.S.PacketSource in
+    let a = c.args.antenna in
+    let value = g.B.Backend.value in
+    let few = few_in value plan backend c.args.core.now number turn state a at c.requires.in_range in
+    let within : a < length c.args.sources.now = let low = c.requires.in_range in let enough = c.requires.enough in omega (arith, low, enough) in
+    hears_among value S.gives S.given S.faults plan backend c.args.sources.now _ _ c.args.core.now c.listen.new.core number turn state a _ _ _ _ few within (ap (get_or c.args.sources.now a) c.index-sources-antenna.is)
+    c.listen.ensures.source.same_gives (c.listen.ensures.listens plan backend number turn state at ready)
 
-pub returns-in-Packet-clause-hears : goal.returns-in-Packet-clause-hears
-returns-in-Packet-clause-hears g c = λ plan antenna first faults l h.
-    hears_string plan antenna _ first _ _ faults _ _ _ _ _ l _ _ c.requires.goes_on h c.packet.ensures.stands c.packet.ensures.same c.packet.ensures.own c.in-Packet.ensures.given c.split_at.ensures.front c.in-Packet.ensures.cause
-
-pub returns-in-End-clause-fed : goal.returns-in-End-clause-fed
-returns-in-End-clause-fed g c = λ plan antenna given h. fed_end plan antenna given _ _ _ c.requires.goes_on h c.end.ensures.stands c.end.ensures.ended c.end.ensures.same
-
-pub returns-in-End-clause-hears : goal.returns-in-End-clause-hears
-returns-in-End-clause-hears g c = λ plan antenna first faults l h.
-    hears_end plan antenna _ first _ _ faults _ _ _ _ l _ c.requires.goes_on h c.end.ensures.stands c.end.ensures.ended c.end.ensures.same (at_end _ _ _ _ c.in-End.ensures.given) c.in-End.ensures.cause
-
-pub returns-in-Failed-clause-fed : goal.returns-in-Failed-clause-fed
-returns-in-Failed-clause-fed g c = λ plan antenna given h. fed_end plan antenna given _ _ _ c.requires.goes_on h c.end-in-Failed.ensures.stands c.end-in-Failed.ensures.ended c.end-in-Failed.ensures.same
-
-pub returns-in-Failed-clause-hears : goal.returns-in-Failed-clause-hears
-returns-in-Failed-clause-hears g c = λ plan antenna first faults l h.
-    hears_end plan antenna _ first _ _ faults _ _ _ _ l _ c.requires.goes_on h c.end-in-Failed.ensures.stands c.end-in-Failed.ensures.ended c.end-in-Failed.ensures.same (at_failure _ _ _ _ c.in-Failed.ensures.given) c.in-Failed.ensures.cause
+pub returns-clause-sources : goal.returns-clause-sources
+returns-clause-sources g c =
+    let S = g.S.PacketSource in
+    let a = c.args.antenna in
+    let within : a < length c.args.sources.now = let low = c.requires.in_range in let enough = c.requires.enough in omega (arith, low, enough) in
+    sources_on c.args.sources.now c.args.sources.now a _ _ within (ap (get_or c.args.sources.now a) c.index-sources-antenna.is) S.begun S.at S.gives S.belongs c.args.core.now.parts.plan.antennas c.requires.in_range
+    c.listen.ensures.source (sources_as_they_were S.begun S.at S.gives S.belongs c.args.core.now.parts.plan.antennas c.args.sources.now c.requires.begun)
