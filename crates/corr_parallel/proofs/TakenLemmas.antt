@@ -17,12 +17,14 @@ taken_front plan =
       | inl h ↦ record { rest = []; is = sym (append-nil (taken plan (l ++ b ∷ [])) ∙ taken_push plan l b h.0 h.1) }
       | inr h ↦ record {
         rest = before.rest ++ b ∷ [];
-        is = ap (λ k. k ++ b ∷ []) before.is ∙ append_assoc (taken plan l) before.rest (b ∷ []) ∙ ap (λ k. k ++ (before.rest ++ b ∷ [])) (sym (taken_ended plan l b h));
+        is = ap (λ k. k ++ b ∷ []) before.is ∙ append_assoc (taken plan l) before.rest (b ∷ [])
+            ∙ ap (λ k. k ++ (before.rest ++ b ∷ [])) (sym (taken_ended plan l b h));
       }
     ])
 
 -- as many as count
-pub take_counts : (plan : Plan) (l : List (List ℕ)) (given : ℕ) → given ≡ length (taken plan l) → take given l ≡ taken plan l
+pub take_counts : (plan : Plan) (l : List (List ℕ)) (given : ℕ) → given ≡ length (taken plan l)
+    → take given l ≡ taken plan l
 take_counts plan l given exactly =
     let front = taken_front plan l in
     ap (λ n. take n l) exactly ∙ ap (take (length (taken plan l))) front.is ∙ take-append_seam (taken plan l) front.rest

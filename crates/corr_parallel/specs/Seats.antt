@@ -24,17 +24,20 @@ pub record ReadsAll (plan : Plan) (antenna : ℕ) (list : List (List ℕ)) (give
   pub counts : counts_of r ≡ report plan antenna list
   pub ends : EndsAs r.ended (ending plan list)
 
--- the stream has ended, by a fault only where the source's count of faults rose; what is said of the source stays; and where
--- lists are named, all of its list that counts was read
-pub record ReadsOut {S A B : Type 0} (names : Bool) (list : ℕ → List (List ℕ)) (plan : Plan) (antenna : ℕ) (begun : S → Bool) (at : S → A) (gives : S → B) (belongs : S → ℕ → Type 0) (given faults : S → ℕ) (old now : S) (r : StreamReport) : Type 0 where
+-- the stream has ended, by a fault only where the source's count of faults rose; what is said of the source stays; and
+-- where lists are named, all of its list that counts was read
+pub record ReadsOut {S A B : Type 0} (names : Bool) (list : ℕ → List (List ℕ)) (plan : Plan) (antenna : ℕ)
+    (begun : S → Bool) (at : S → A) (gives : S → B) (belongs : S → ℕ → Type 0) (given faults : S → ℕ) (old now : S)
+    (r : StreamReport) : Type 0 where
   pub source : KeepsSource begun at gives belongs old now
   pub over : is_some r.ended ≡ true
   pub cause : RisesIf (is_fault r.ended) (faults old) (faults now)
   pub read : names ≡ true → ReadsAll plan antenna (list antenna) (given now) r
 
--- the seat's receiver can begin: it took nothing, and its source is begun and, where lists are named, is the one to which
--- its antenna's list belongs
-pub record IsSeated {S : Type 0} (names : Bool) (named : Plan) (begun : S → Bool) (belongs : S → ℕ → Type 0) (given : S → ℕ) (source : S) (receiver : Option ReceiverView) : Type 0 where
+-- the seat's receiver can begin: it took nothing, and its source is begun and, where lists are named, is the one to
+-- which its antenna's list belongs
+pub record IsSeated {S : Type 0} (names : Bool) (named : Plan) (begun : S → Bool) (belongs : S → ℕ → Type 0)
+    (given : S → ℕ) (source : S) (receiver : Option ReceiverView) : Type 0 where
   pub view : ReceiverView
   pub is : receiver ≡ Some view
   pub is_begun : begun source ≡ true
@@ -43,12 +46,16 @@ pub record IsSeated {S : Type 0} (names : Bool) (named : Plan) (begun : S → Bo
   pub goes_on : view.feed.report.ended ≡ None
 
 -- what became of a seat with this receiver
-pub record LeavesSeat {S A B : Type 0} (names : Bool) (list : ℕ → List (List ℕ)) (begun : S → Bool) (at : S → A) (gives : S → B) (belongs : S → ℕ → Type 0) (given faults : S → ℕ) (before : ReceiverView) (old now : S) (receiver : Option ReceiverView) : Type 0 where
+pub record LeavesSeat {S A B : Type 0} (names : Bool) (list : ℕ → List (List ℕ)) (begun : S → Bool) (at : S → A)
+    (gives : S → B) (belongs : S → ℕ → Type 0) (given faults : S → ℕ) (before : ReceiverView) (old now : S)
+    (receiver : Option ReceiverView) : Type 0 where
   pub view : ReceiverView
   pub is : receiver ≡ Some view
-  pub reads : ReadsOut names list before.plan before.antenna begun at gives belongs given faults old now view.feed.report
+  pub reads : ReadsOut names list before.plan before.antenna begun at gives belongs given faults old now
+      view.feed.report
 
 -- the seat has the receiver, and its source as it was
-pub record IsSeatOf {S : Type 0} (before : S) (v : ReceiverView) (source : S) (receiver : Option ReceiverView) : Type 0 where
+pub record IsSeatOf {S : Type 0} (before : S) (v : ReceiverView) (source : S)
+    (receiver : Option ReceiverView) : Type 0 where
   pub same_source : source ≡ before
   pub is : receiver ≡ Some v

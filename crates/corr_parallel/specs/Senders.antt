@@ -19,13 +19,14 @@ pub record SinkView : Type 0 where
 abbrev pub meant_heaps : Means → Strings → OutputHeaps
 meant_heaps m s = record { head = s.head; heap = λ n. s.heap n (meant m n); stop = s.stop }
 
--- from the sender's opening on these strings were sent and counted: where lists are named and the value is shown, those of
--- the results that it took, or a front of them where the sink failed
+-- from the sender's opening on these strings were sent and counted: where lists are named and the value is shown, those
+-- of the results that it took, or a front of them where the sink failed
 pub record SentSoFar (m : Means) (s : Strings) (old now : DispatchView) (before after : SinkView) : Type 0 where
   pub same_plan : now.plan ≡ old.plan
   pub went : List (List ℕ)
   pub goes : SendsWhole before.sent after.sent old.sent now.sent went
-  pub whole : now.broken ≡ false → m.names ≡ true → m.shows ≡ true → went ≡ output_before old.plan (meant_heaps m s) now.passed
+  pub whole : now.broken ≡ false → m.names ≡ true → m.shows ≡ true
+      → went ≡ output_before old.plan (meant_heaps m s) now.passed
   pub front : m.names ≡ true → m.shows ≡ true → IsFront went (output_before old.plan (meant_heaps m s) now.passed)
   pub kept : now.broken ≡ false → after.faults ≡ before.faults
   pub rises : now.broken ≡ true → Rises before.faults after.faults

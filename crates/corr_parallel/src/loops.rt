@@ -1,6 +1,6 @@
 //! What each actor of a run does to its end: its turns, and a pause after each that waits.
 
-ghost use Rattle.std.specs.Prelude.{◌≡◌, ◌≢◌, true, false, None, is_some, MatchBool};
+ghost use Rattle.std.specs.Prelude.{◌≡◌, ◌≢◌, ◌↔◌, true, false, None, is_some, MatchBool};
 ghost use Rattle.corr_serial.specs.Sources.{KeepsSource, RisesIf};
 ghost use Rattle.corr_serial.specs.Hearing.{is_fault};
 ghost use Rattle.corr_threads.specs.declared.turn.Turn.{Turn};
@@ -49,7 +49,8 @@ fn goes_on<O: Observation, B: Backend, R: Wait>(
 // What became of a worker's and the sender's turn together: the sender's, but that neither waits
 // where the worker moved.
 fn of_both(worked: Turn, sent: Turn) -> Turn
-    ensures { result ≡ Turn.Done → sent ≡ Turn.Done }
+    ensures done { (result ≡ Turn.Done) ↔ (sent ≡ Turn.Done) }
+    ensures waits { result ≡ Turn.Waits → (sent ≡ Turn.Waits) × (worked ≢ Turn.Moved) }
 {
     match (worked, sent) {
         (Turn::Moved, Turn::Waits) => Turn::Moved,

@@ -47,7 +47,7 @@ pub struct SharedOf<O: Observation, B: Backend, E: Emit<Out = B::Out>> {
     ghost fits: { Fits plan },
     ghost named: { O.names ≡ true → plan ≡ O.plan },
     ghost new_receivers: { Built (IsNewReceiver plan) plan.antennas receivers.items },
-    ghost own_workers: { Built (λ w x. x ≡ new_worker plan) (work_count plan) workers.items },
+    ghost own_workers: { Built (λ w x. x ≡ new_worker plan w) (work_count plan) workers.items },
     ghost new_dispatch: { IsNewDispatch plan dispatch },
     ghost suits: { B.serves backend plan ≡ true },
     ghost one_each: { vec_len reports ≡ plan.antennas },
@@ -101,7 +101,7 @@ fn new_workers<O: Observation, B: Backend>(
     requires fits { Fits plan.now }
     requires works { Built (λ w k. k ≡ free_work plan.now (B.size plan.now))
         (work_count plan.now) works.items }
-    ensures { IfOk result (λ v. Built (λ w x. x ≡ new_worker plan.now) (work_count plan.now) v.items) }
+    ensures { IfOk result (λ v. Built (λ w x. x ≡ new_worker plan.now w) (work_count plan.now) v.items) }
 {
     let count = plan.workers.max(1);
     let mut workers = Vec::with_capacity(alloc, count as usize)?;

@@ -1,5 +1,6 @@
 -- What the receiver of a stream shows, what it keeps, and its turns. This project's own.
-use Rattle.std.specs.Prelude.{◌≡◌, ◌≢◌, ◌⊎◌, ℕ, ◌+◌, ◌≤◌, Bool, true, if◌then◌else◌, List, length, Option, Some, None, is_some}
+use Rattle.std.specs.Prelude.{◌≡◌, ◌≢◌, ◌⊎◌, ℕ, ◌+◌, ◌≤◌, Bool, true, false, if◌then◌else◌, List, length, Option, Some, None}
+use Rattle.std.specs.Prelude.{is_some}
 use Rattle.corr_model.specs.declared.plan.Plan.{Plan}
 use Rattle.corr_model.specs.declared.verdict.Ending.{Ending}
 use Rattle.corr_model.specs.declared.verdict.Ending.TheVariants as endings
@@ -9,7 +10,7 @@ use Rattle.corr_model.specs.PacketVerdicts.{report}
 use Rattle.corr_site.specs.Outside.{Rises}
 use Rattle.slot_column.specs.Columns.{Hand}
 use Rattle.stream_feed.specs.Counting.{counts_of}
-use Rattle.stream_feed.specs.Feeding.{FeedState, StandsFor, IsOfList, EndsAs}
+use Rattle.stream_feed.specs.Feeding.{FeedState, StandsFor, IsOfList, EndsAs, due_of}
 use Rattle.slot_ring.specs.declared.held.Held.{Held}
 use Rattle.slot_ring.specs.declared.held.Kind.TheVariants.{Filling}
 use Rattle.corr_threads.specs.Holding.{KeepsHeld}
@@ -48,7 +49,8 @@ pub record IsReceiver (names : Bool) (list : ℕ → List (List ℕ)) (v : Recei
   pub most : v.feed.columns.given ≤ v.plan.accumulations
 
 -- the source gives the observation's list of the antenna, and gave what the receiver took
-pub record SourceTold {S : Type 0} (belongs : S → ℕ → Type 0) (given : S → ℕ) (source : S) (v : ReceiverView) : Type 0 where
+pub record SourceTold {S : Type 0} (belongs : S → ℕ → Type 0) (given : S → ℕ) (source : S)
+    (v : ReceiverView) : Type 0 where
   pub belongs_to : belongs source v.antenna
   pub as_many : given source ≡ v.feed.report.taken
 
@@ -56,8 +58,9 @@ pub record SourceTold {S : Type 0} (belongs : S → ℕ → Type 0) (given : S �
 abbrev pub RefusesColumn : Held → Plan → ℕ → Type 0
 RefusesColumn held plan number = (held.plan ≢ plan) ⊎ (held.number ≢ number) ⊎ (held.kind ≢ Filling)
 
--- what refused last has no place for its next column
+-- it has a column in its hand, for which what refused last has no place
 pub record WaitsForPlace (v : ReceiverView) : Type 0 where
+  pub has_column : v.hand.is_closed ≡ true
   pub shown : Held
   pub is_held : v.held ≡ Some shown
   pub refuses : RefusesColumn shown v.plan v.placed
@@ -84,9 +87,23 @@ pub record EndsStream (old new : ReceiverView) : Type 0 where
   pub same_taken : new.feed.report.taken ≡ old.feed.report.taken
   pub same_placed : new.placed ≡ old.placed
 
--- it took one string more, or placed one column more, or its stream ended
+-- a column is in its hand, or due
+abbrev pub HasColumn : ReceiverView → Type 0
+HasColumn v = (v.hand.is_closed ≡ true) ⊎ (is_some (due_of v.feed) ≡ true)
+
+-- no column is in its hand or due, and its stream goes on
+pub record IsToRead (v : ReceiverView) : Type 0 where
+  pub spare : v.hand.is_closed ≡ false
+  pub none_due : due_of v.feed ≡ None
+  pub goes_on : v.feed.report.ended ≡ None
+
+-- it took one string more, or its stream ended
+abbrev pub HasRead : ReceiverView → ReceiverView → Type 0
+HasRead old new = TakesOne old new ⊎ EndsStream old new
+
+-- a column that was in its hand or due was placed; else one string was taken, or its stream ended
 abbrev pub HasMoved : ReceiverView → ReceiverView → Type 0
-HasMoved old new = TakesOne old new ⊎ PlacesOne old new ⊎ EndsStream old new
+HasMoved old new = (HasColumn old × PlacesOne old new) ⊎ (IsToRead old × HasRead old new)
 
 -- it took and placed nothing
 pub record HasRested (old new : ReceiverView) : Type 0 where
@@ -98,8 +115,8 @@ pub record HasPlacedAll (v : ReceiverView) : Type 0 where
   pub ended : is_some v.feed.report.ended ≡ true
   pub all : v.placed ≡ v.plan.accumulations
 
--- of this list all strings that count were taken: the report is the list's, and the stream ended as the list does, or as
--- its source did
+-- of this list all strings that count were taken: the report is the list's, and the stream ended as the list does, or
+-- as its source did
 pub record HasReadAll (list : List (List ℕ)) (v : ReceiverView) : Type 0 where
   pub exactly : v.feed.report.taken ≡ length (taken v.plan list)
   pub counts : counts_of v.feed.report ≡ report v.plan v.antenna list
@@ -121,7 +138,7 @@ FaultCause (Some how) ended before now = (ended ≡ Some how) × (now ≡ before
 -- why a turn answers this
 abbrev pub ReceiverCause : ReceiverView → Turn → ReceiverView → Type 0
 ReceiverCause old turns.Moved new = HasMoved old new
-ReceiverCause old turns.Waits new = WaitsForPlace new
+ReceiverCause old turns.Waits new = HasColumn old × WaitsForPlace new
 ReceiverCause old turns.Done new = HasPlacedAll new
 
 -- what a turn that does not move keeps
@@ -161,5 +178,5 @@ pub record PutTurn (old : ReceiverView) (answer : Turn) (new : ReceiverView) : T
 -- a string was taken, or the stream ended
 pub record TakeTurn (old new : ReceiverView) : Type 0 where
   pub keeps : KeepsStream old new
-  pub moved : HasMoved old new
+  pub reads : HasRead old new
   pub same_held : new.held ≡ old.held

@@ -9,9 +9,11 @@ use Rattle.slot_ring.specs.Answers.{RefusesTake}
 use Rattle.corr_threads.specs.declared.turn.Turn.{Turn}
 use Rattle.corr_threads.specs.declared.turn.Turn.TheVariants as turns
 
--- what a worker shows: for each slot what it showed when it refused last, and how many works were computed
+-- what a worker shows: which of the workers it is, for each slot what it showed when it refused last, and how many
+-- works were computed
 pub record WorkerView : Type 0 where
   pub plan : Plan
+  pub number : ℕ
   pub held : List (Option Held)
   pub computed : ℕ
 
@@ -50,11 +52,30 @@ PastTo v count = (s : ℕ) → s < count → PastAt v s
 abbrev pub EachPast : WorkerView → Type 0
 EachPast v = PastTo v v.plan.slots
 
--- why a turn answers this; the count of computed works goes up by one, and stays at 2^64 - 1 once it is there
+-- one work more was computed; the count stays at 2^64 - 1 once it is there. The slots before that of the work refused
+-- in this turn, and what that one and those after it showed when they refused last is as it was
+pub record ComputesOne (old new : WorkerView) : Type 0 where
+  pub one_more : new.computed ≡ min (old.computed + 1) (2 ^ 64 - 1)
+  pub slot : ℕ
+  pub is_slot : slot < new.plan.slots
+  pub refuses : RefusesTo new slot
+  pub others : (s : ℕ) → slot ≤ s → get_or new.held s None ≡ get_or old.held s None
+
+-- each slot refuses, and not each has a number past the last
+pub record WaitsForWork (v : WorkerView) : Type 0 where
+  pub refuses : RefusesEach v
+  pub not_past : EachPast v → ⊥
+
+-- each slot refuses, and has a number past the last
+pub record HasNoWork (v : WorkerView) : Type 0 where
+  pub refuses : RefusesEach v
+  pub past : EachPast v
+
+-- why a turn answers this
 abbrev pub WorkerCause : WorkerView → Turn → WorkerView → Type 0
-WorkerCause old turns.Moved new = new.computed ≡ min (old.computed + 1) (2 ^ 64 - 1)
-WorkerCause old turns.Waits new = RefusesEach new
-WorkerCause old turns.Done new = EachPast new
+WorkerCause old turns.Moved new = ComputesOne old new
+WorkerCause old turns.Waits new = WaitsForWork new
+WorkerCause old turns.Done new = HasNoWork new
 
 -- what a turn that does not move keeps
 abbrev pub WorkerRests : WorkerView → Turn → WorkerView → Type 0
@@ -65,5 +86,6 @@ WorkerRests old turns.Done new = new.computed ≡ old.computed
 -- a turn of a worker
 pub record WorkerTurn (old : WorkerView) (answer : Turn) (new : WorkerView) : Type 0 where
   pub same_plan : new.plan ≡ old.plan
+  pub same_number : new.number ≡ old.number
   pub cause : WorkerCause old answer new
   pub rests : WorkerRests old answer new

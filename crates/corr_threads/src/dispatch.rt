@@ -31,10 +31,23 @@ impl<O: Observation, B: Backend, E: Emit<Out = B::Out>> Model for Dispatch<O, B,
 
     ghost Value = { DispatchView };
 
-    ghost view = { λ s. record { plan = s.plan; sent = E.tally s.emit; passed = s.passed; broken = s.broken; held = s.held } };
+    ghost view = { λ s. record {
+      plan = s.plan;
+      outgoing = s.outgoing;
+      sent = E.tally s.emit;
+      passed = s.passed;
+      broken = s.broken;
+      held = s.held;
+    } };
 
-    ghost invariant = { λ s. IsDispatch (E.of_plan s.emit)
-        (record { plan = s.plan; sent = E.tally s.emit; passed = s.passed; broken = s.broken; held = s.held }) s.outgoing };
+    ghost invariant = { λ s. IsDispatch (E.of_plan s.emit) (record {
+      plan = s.plan;
+      outgoing = s.outgoing;
+      sent = E.tally s.emit;
+      passed = s.passed;
+      broken = s.broken;
+      held = s.held;
+    }) };
 }
 
 impl<O: Observation, B: Backend, E: Emit<Out = B::Out>> Dispatch<O, B, E> {
@@ -43,7 +56,14 @@ impl<O: Observation, B: Backend, E: Emit<Out = B::Out>> Dispatch<O, B, E> {
         requires fits { Fits plan.now }
         requires same_plan { outgoing.plan ≡ plan.now }
         requires emit_plan { E.of_plan emit ≡ plan.now }
-        ensures { result ≡ record { plan = plan.now; sent = E.tally emit; passed = 0; broken = false; held = None } }
+        ensures { result ≡ record {
+          plan = plan.now;
+          outgoing = outgoing;
+          sent = E.tally emit;
+          passed = 0;
+          broken = false;
+          held = None;
+        } }
     {
         Dispatch {
             plan: *plan,
@@ -65,7 +85,8 @@ impl<O: Observation, B: Backend, E: Emit<Out = B::Out>> Dispatch<O, B, E> {
         gate: &G,
     ) -> Turn
         requires begun { K.begun sink.old ≡ true }
-        ensures turn { DispatchTurn (record { names = O.names; plan = O.plan; list = O.list; shows = B.shows; fixed = B.fixed })
+        ensures turn { DispatchTurn
+            (record { names = O.names; plan = O.plan; list = O.list; shows = B.shows; fixed = B.fixed })
             (E.strings self.old.plan) self.old result self.new
             (K.sent sink.old) (K.sent sink.new) (K.faults sink.old) (K.faults sink.new) }
         ensures begun { K.begun sink.new ≡ true }

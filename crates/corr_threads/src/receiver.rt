@@ -3,7 +3,8 @@
 ghost use Rattle.std.specs.Prelude.{◌≡◌, ℕ, [], true, false, None, is_some, IfOk};
 ghost use Rattle.corr_model.specs.Plans.{Fits};
 ghost use Rattle.stream_feed.specs.Feeding.{StandsFor, IsOfList, due_of};
-ghost use Rattle.corr_threads.specs.Receivers.{ReceiverView, ReceiverTurn, SourceTold, FaultCause, FillsHand, PutTurn, TakeTurn, HasReadAll};
+ghost use Rattle.corr_threads.specs.Receivers.{ReceiverView, ReceiverTurn, SourceTold, FaultCause, HasReadAll};
+ghost use Rattle.corr_threads.specs.Receivers.{FillsHand, PutTurn, TakeTurn};
 
 use crate::turn::Turn;
 use corr_model::{Observation, Plan};
@@ -34,10 +35,23 @@ impl<O: Observation> Model for Receiver<O> {
 
     ghost Value = { ReceiverView };
 
-    ghost view = { λ s. record { plan = s.plan; antenna = s.antenna; feed = s.feed; hand = s.hand; placed = s.placed; held = s.held } };
+    ghost view = { λ s. record {
+      plan = s.plan;
+      antenna = s.antenna;
+      feed = s.feed;
+      hand = s.hand;
+      placed = s.placed;
+      held = s.held;
+    } };
 
-    ghost invariant = { λ s. IsReceiver O.names O.list
-        (record { plan = s.plan; antenna = s.antenna; feed = s.feed; hand = s.hand; placed = s.placed; held = s.held }) };
+    ghost invariant = { λ s. IsReceiver O.names O.list (record {
+      plan = s.plan;
+      antenna = s.antenna;
+      feed = s.feed;
+      hand = s.hand;
+      placed = s.placed;
+      held = s.held;
+    }) };
 }
 
 impl<O: Observation> Receiver<O> {
@@ -59,7 +73,14 @@ impl<O: Observation> Receiver<O> {
         requires ended { feed.report.ended ≡ None }
         requires spare { hand.is_closed ≡ false }
         requires hand_plan { hand.column.plan ≡ plan.now }
-        ensures { IfOk result (λ r. r ≡ record { plan = plan.now; antenna = antenna; feed = feed; hand = hand; placed = 0; held = None }) }
+        ensures { IfOk result (λ r. r ≡ record {
+          plan = plan.now;
+          antenna = antenna;
+          feed = feed;
+          hand = hand;
+          placed = 0;
+          held = None;
+        }) }
     {
         Ok(Receiver {
             plan: *plan,

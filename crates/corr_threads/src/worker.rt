@@ -1,7 +1,7 @@
 //! The actor that correlates accumulations.
 
-ghost use Rattle.std.specs.Prelude.{◌≡◌, ◌≢◌, ◌<◌, ◌≤◌, true, Some, length, get_or, None, IfOk, replicate};
-ghost use Rattle.corr_threads.specs.Workers.{WorkerView, WorkerTurn, RefusesEach, RefusesTo, EachPast};
+ghost use Rattle.std.specs.Prelude.{◌≡◌, ◌≢◌, ◌<◌, ◌≤◌, true, Some, length, get_or, None, IfOk, MatchBool, replicate};
+ghost use Rattle.corr_threads.specs.Workers.{WorkerView, WorkerTurn, RefusesEach, RefusesTo, EachPast, PastAt};
 ghost use Rattle.corr_model.specs.Plans.{Fits};
 ghost use Rattle.slot_ring.specs.declared.work.Stage.{Stage};
 
@@ -30,9 +30,10 @@ impl<O: Observation, B: Backend> Model for Worker<O, B> {
 
     ghost Value = { WorkerView };
 
-    ghost view = { λ s. record { plan = s.plan; held = s.held.items; computed = s.computed } };
+    ghost view = { λ s. record { plan = s.plan; number = s.number; held = s.held.items; computed = s.computed } };
 
-    ghost invariant = { λ s. IsWorker (record { plan = s.plan; held = s.held.items; computed = s.computed }) s.work };
+    ghost invariant = { λ s. IsWorker
+        (record { plan = s.plan; number = s.number; held = s.held.items; computed = s.computed }) s.work };
 }
 
 impl<O: Observation, B: Backend> Worker<O, B> {
@@ -46,7 +47,8 @@ impl<O: Observation, B: Backend> Worker<O, B> {
     ) -> Result<Worker<O, B>, NoMemory>
         requires fits { Fits plan.now }
         requires free { (work.stage ≡ Stage.Free) × (work.plan ≡ plan.now) }
-        ensures { IfOk result (λ w. w ≡ record { plan = plan.now; held = replicate plan.now.slots None; computed = 0 }) }
+        ensures { IfOk result (λ w. w
+            ≡ record { plan = plan.now; number = number; held = replicate plan.now.slots None; computed = 0 }) }
     {
         Ok(Worker {
             plan: *plan,
@@ -91,16 +93,27 @@ impl<O: Observation, B: Backend> Worker<O, B> {
     }
 
     // Whether each slot showed a number past the last.
+    #[tactic(auto, using(crate::proofs::WorkerLemmas::past_more, crate::proofs::WorkerLemmas::not_each_past))]
     fn is_past(&self) -> bool
-        ensures { result ≡ true → EachPast self.now }
+        ensures { MatchBool result (EachPast self.now) (EachPast self.now → ⊥) }
     {
         for slot in 0..self.plan.slots {
-            match self.held(slot) {
-                Some(held) if held.number >= u64::from(self.plan.accumulations) => {}
-                _ => return false,
+            if !self.is_past_at(slot) {
+                return false;
             }
         }
         true
+    }
+
+    // Whether the slot showed a number past the last.
+    fn is_past_at(&self, slot: u32) -> bool
+        requires { slot < self.now.plan.slots }
+        ensures { MatchBool result (PastAt self.now slot) (PastAt self.now slot → ⊥) }
+    {
+        match self.held(slot) {
+            Some(held) => held.number >= u64::from(self.plan.accumulations),
+            None => false,
+        }
     }
 
     /// What a slot showed when it refused last.

@@ -7,5 +7,6 @@ invariant-loop g l =
     let O = g.O.Observation in
     let K = g.K.PacketSink in
     (l.worker.plan ≡ l.fn.worker.plan)
-    × Sends (record { names = O.names; plan = O.plan; list = O.list; shows = g.B.Backend.shows; fixed = g.B.Backend.fixed })
+    × Sends
+    (record { names = O.names; plan = O.plan; list = O.list; shows = g.B.Backend.shows; fixed = g.B.Backend.fixed })
     (g.E.Emit.strings l.fn.dispatch.plan) K.begun K.at K.sent K.faults l.fn.dispatch l.dispatch l.fn.sink l.sink

@@ -16,17 +16,23 @@ returns-clause-sends g c = λ lists given.
     let least = x.fits.ranges.shape.antennas.least_met in
     let enough = c.requires.enough in
     let d = some_of c.args.seats.now (omega (arith, least, enough)) in
-    let told = told_lists O.names O.list x.plan (λ (s : T). S.gives s.source) (λ (s : T). S.belongs s.source) (λ (s : T). S.given s.source) c.args.seats.now lists c.requires.observed (λ (s : T) a. (g.met.S.PacketSource g.world.𝓛 g.world.𝓜 g.world.𝓡 ((λ q k. k), (λ k. k), (λ k. k), λ k. k)).belongs_tells s.source a) given d in
+    let told = told_lists O.names O.list x.plan (λ (s : T). S.gives s.source) (λ (s : T). S.belongs s.source)
+    (λ (s : T). S.given s.source) c.args.seats.now lists c.requires.observed
+    (λ (s : T) a.
+    (g.met.S.PacketSource g.world.𝓛 g.world.𝓜 g.world.𝓡 ((λ q k. k), (λ k. k), (λ k. k), λ k. k)).belongs_tells
+    s.source a) given d in
     let named = (told 0 (omega (arith, least))).0 in
     sends_told run.result.ran _ _ run.result.sent x.plan O.plan O.list lists (x.named named) (λ a low. (told a low).1)
-    (subst (SendsBy run.result.ran _ _ run.result.sent) (meant_output O.names x.plan O.plan O.list (x.named named)) (run.ensures.observed named refl))
+    (subst (SendsBy run.result.ran _ _ run.result.sent) (meant_output O.names x.plan O.plan O.list (x.named named))
+    (run.ensures.observed named refl))
 
 pub returns-clause-observed : goal.returns-clause-observed
 returns-clause-observed g c = λ named.
     let O = g.O.Observation in
     let x = c.args.shared in
     let run = c.threads_with in
-    subst (SendsBy run.result.ran _ _ run.result.sent) (meant_output O.names x.plan O.plan O.list (x.named named)) (run.ensures.observed named refl)
+    subst (SendsBy run.result.ran _ _ run.result.sent) (meant_output O.names x.plan O.plan O.list (x.named named))
+    (run.ensures.observed named refl)
 
 pub returns-clause-counted : goal.returns-clause-counted
 returns-clause-counted g c = λ named whole.
@@ -34,4 +40,5 @@ returns-clause-counted g c = λ named whole.
     let x = c.args.shared in
     let run = c.threads_with in
     sends_counted run.result.ran _ _ run.result.sent x.plan O.plan O.list (x.named named) whole
-    (subst (SendsBy run.result.ran _ _ run.result.sent) (meant_output O.names x.plan O.plan O.list (x.named named)) (run.ensures.observed named refl))
+    (subst (SendsBy run.result.ran _ _ run.result.sent) (meant_output O.names x.plan O.plan O.list (x.named named))
+    (run.ensures.observed named refl))

@@ -5,7 +5,8 @@ use Rattle.corr_parallel.specs.Senders.{SinkView}
 use Rattle.corr_threads.specs.declared.seat.Seat.{Seat}
 use Rattle.corr_serial.specs.Runs.{RanHasCause, IsFirstFault, ran_as}
 use Rattle.corr_serial.proofs.OutcomeLemmas.{some_of, ran_done}
-use Rattle.corr_parallel.proofs.ConcludeLemmas.{are_begun, keep_at, keep_gives, keep_belonging, gave_taken, are_reports, are_whole_reports, sink_cause}
+use Rattle.corr_parallel.proofs.ConcludeLemmas.{are_begun, keep_at, keep_gives, keep_belonging, gave_taken, are_reports}
+use Rattle.corr_parallel.proofs.ConcludeLemmas.{are_whole_reports, sink_cause}
 use Rattle.corr_parallel.proofs.RunLemmas.{one_seated, reads_each, same_later, same_length, ran_sends, ran_counted}
 use Rattle.corr_parallel.proofs.run.threads_with.Goals as goal
 
@@ -18,8 +19,11 @@ run_actors-dispatch-requires-clause-seats g c κs within = λ a d low.
     let old = c.args.seats.now in
     let least = x.fits.ranges.shape.antennas.least_met in
     let many_new = x.new_receivers.as_many in
-    let many : length c.take_seats.new.seats ≡ x.plan.antennas = c.take_seats.auto.seats ∙ length-take-le x.plan.antennas old c.requires.enough in
-    one_seated O.names O.plan x.plan (λ (s : T). s.source) (λ (s : T). s.receiver) S.begun S.belongs S.given x.receivers.items old c.take_seats.new.seats x.named c.requires.enough many x.new_receivers c.take_seats.ensures c.requires.begun c.requires.observed
+    let many : length c.take_seats.new.seats ≡ x.plan.antennas = c.take_seats.auto.seats
+    ∙ length-take-le x.plan.antennas old c.requires.enough in
+    one_seated O.names O.plan x.plan (λ (s : T). s.source)
+    (λ (s : T). s.receiver) S.begun S.belongs S.given x.receivers.items old c.take_seats.new.seats x.named
+    c.requires.enough many x.new_receivers c.take_seats.ensures c.requires.begun c.requires.observed
     (some_of x.receivers.items (omega (arith, many_new, least))) a d low
 
 pub returns : goal.returns
@@ -37,7 +41,8 @@ returns g c =
     let now = own ++ drop plan.antennas old in
     let least = x.fits.ranges.shape.antennas.least_met in
     let enough = c.requires.enough in
-    let many_seated : length c.take_seats.new.seats ≡ plan.antennas = c.take_seats.auto.seats ∙ length-take-le plan.antennas old enough in
+    let many_seated : length c.take_seats.new.seats ≡ plan.antennas = c.take_seats.auto.seats
+    ∙ length-take-le plan.antennas old enough in
     let many : length own ≡ plan.antennas = run.auto.seats ∙ many_seated in
     let many_new = x.new_receivers.as_many in
     let v = some_of x.receivers.items (omega (arith, many_new, least)) in
@@ -53,29 +58,58 @@ returns g c =
     let before : SinkView = record { sent = K.sent c.args.sink.now; faults = K.faults c.args.sink.now } in
     let after : SinkView = record { sent = K.sent run.new.sink; faults = K.faults run.new.sink } in
     let later = same_later plan.antennas old own many in
-    let each = reads_each O.names O.list plan (λ (s : T). s.source) (λ (s : T). s.receiver) S.begun S.at S.gives S.belongs S.given S.faults x.receivers.items old c.take_seats.new.seats own c.of.result c.take_reports.new.reports same x.new_receivers enough many_seated many
+    let each = reads_each O.names O.list plan (λ (s : T). s.source)
+    (λ (s : T). s.receiver) S.begun S.at S.gives S.belongs S.given S.faults x.receivers.items old
+    c.take_seats.new.seats own c.of.result c.take_reports.new.reports same x.new_receivers enough many_seated many
     c.take_seats.ensures run.ensures.seats c.take_reports.ensures v in
-    let law : (s : T) (a : ℕ) → S.belongs s.source a → S.gives s.source ≡ Some (O.list a) = λ s a. (g.met.S.PacketSource g.world.𝓛 g.world.𝓜 g.world.𝓡 ((λ q k. k), (λ k. k), (λ k. k), λ k. k)).belongs_tells s.source a in
-    let are = are_reports O.names O.list plan (λ (s : T). S.begun s.source) (λ (s : T). S.at s.source) (λ (s : T). S.gives s.source) (λ (s : T). S.belongs s.source) (λ (s : T). S.given s.source) (λ (s : T). S.faults s.source) old now c.of.result each later r many_reports c.requires.observed law in
-    let first = subst (λ l. IsFirstFault l c.first_fault.result) (c.deref.ensures.value ∙ sym c.of.ensures) c.first_fault.ensures in
+    let law : (s : T) (a : ℕ) → S.belongs s.source a → S.gives s.source ≡ Some (O.list a) =
+    λ s a.
+    (g.met.S.PacketSource g.world.𝓛 g.world.𝓜 g.world.𝓡 ((λ q k. k), (λ k. k), (λ k. k), λ k. k)).belongs_tells
+    s.source a in
+    let are = are_reports O.names O.list plan (λ (s : T). S.begun s.source) (λ (s : T). S.at s.source)
+    (λ (s : T). S.gives s.source) (λ (s : T). S.belongs s.source) (λ (s : T). S.given s.source)
+    (λ (s : T). S.faults s.source) old now c.of.result each later r many_reports c.requires.observed law in
+    let first = subst (λ l. IsFirstFault l c.first_fault.result)
+    (c.deref.ensures.value ∙ sym c.of.ensures) c.first_fault.ensures in
     let is = c.ran_as-ran.ensures ∙ ap (λ b. ran_as (not b) c.first_fault.result) c.is_broken.ensures in
-    let why : RanHasCause (λ (s : T). S.faults s.source) plan.antennas old now (K.faults c.args.sink.now) (K.faults run.new.sink) c.ran_as-ran.result
-    = subst (RanHasCause (λ (s : T). S.faults s.source) plan.antennas old now (K.faults c.args.sink.now) (K.faults run.new.sink)) (sym is)
-    (sink_cause plan _ (λ (s : T). S.given s.source) (λ (s : T). S.faults s.source) old now c.of.result r later are run.result.broken c.first_fault.result (K.faults c.args.sink.now) (K.faults run.new.sink) first run.ensures.sent.kept run.ensures.sent.rises) in
+    let why : RanHasCause (λ (s : T). S.faults s.source) plan.antennas old now (K.faults c.args.sink.now)
+    (K.faults run.new.sink) c.ran_as-ran.result
+    =
+    subst
+    (RanHasCause (λ (s : T). S.faults s.source) plan.antennas old now (K.faults c.args.sink.now)
+    (K.faults run.new.sink)) (sym is)
+    (sink_cause plan _ (λ (s : T). S.given s.source)
+    (λ (s : T). S.faults s.source) old now c.of.result r later are run.result.broken c.first_fault.result
+    (K.faults c.args.sink.now) (K.faults run.new.sink) first run.ensures.sent.kept run.ensures.sent.rises) in
     record {
       length = same_length plan.antennas old own enough many;
       later = later;
-      begun = are_begun O.names O.list plan (λ (s : T). S.begun s.source) (λ (s : T). S.at s.source) (λ (s : T). S.gives s.source) (λ (s : T). S.belongs s.source) (λ (s : T). S.given s.source) (λ (s : T). S.faults s.source) old now c.of.result each later r;
-      at = keep_at O.names O.list plan (λ (s : T). S.begun s.source) (λ (s : T). S.at s.source) (λ (s : T). S.gives s.source) (λ (s : T). S.belongs s.source) (λ (s : T). S.given s.source) (λ (s : T). S.faults s.source) old now c.of.result each later r;
-      gives = keep_gives O.names O.list plan (λ (s : T). S.begun s.source) (λ (s : T). S.at s.source) (λ (s : T). S.gives s.source) (λ (s : T). S.belongs s.source) (λ (s : T). S.given s.source) (λ (s : T). S.faults s.source) old now c.of.result each later r;
-      belongs = keep_belonging O.names O.list plan (λ (s : T). S.begun s.source) (λ (s : T). S.at s.source) (λ (s : T). S.gives s.source) (λ (s : T). S.belongs s.source) (λ (s : T). S.given s.source) (λ (s : T). S.faults s.source) old now c.of.result each later r;
+      begun = are_begun O.names O.list plan (λ (s : T). S.begun s.source) (λ (s : T). S.at s.source)
+          (λ (s : T). S.gives s.source) (λ (s : T). S.belongs s.source) (λ (s : T). S.given s.source)
+          (λ (s : T). S.faults s.source) old now c.of.result each later r;
+      at = keep_at O.names O.list plan (λ (s : T). S.begun s.source) (λ (s : T). S.at s.source)
+          (λ (s : T). S.gives s.source) (λ (s : T). S.belongs s.source) (λ (s : T). S.given s.source)
+          (λ (s : T). S.faults s.source) old now c.of.result each later r;
+      gives = keep_gives O.names O.list plan (λ (s : T). S.begun s.source) (λ (s : T). S.at s.source)
+          (λ (s : T). S.gives s.source) (λ (s : T). S.belongs s.source) (λ (s : T). S.given s.source)
+          (λ (s : T). S.faults s.source) old now c.of.result each later r;
+      belongs = keep_belonging O.names O.list plan (λ (s : T). S.begun s.source) (λ (s : T). S.at s.source)
+          (λ (s : T). S.gives s.source) (λ (s : T). S.belongs s.source) (λ (s : T). S.given s.source)
+          (λ (s : T). S.faults s.source) old now c.of.result each later r;
       sink_begun = run.ensures.begun;
       sink_at = run.ensures.at;
-      observed = ran_sends m g.E.Emit.strings plan x.dispatch run.result before after c.first_fault.result c.ran_as-ran.result c.sent.result x.new_dispatch run.ensures.sent is c.sent.ensures;
-      counted = ran_counted m (g.E.Emit.strings x.dispatch.plan) plan x.dispatch run.result before after c.sent.result x.new_dispatch run.ensures.sent c.sent.ensures;
-      taken = gave_taken O.names O.list plan (λ (s : T). S.begun s.source) (λ (s : T). S.at s.source) (λ (s : T). S.gives s.source) (λ (s : T). S.belongs s.source) (λ (s : T). S.given s.source) (λ (s : T). S.faults s.source) old now c.of.result each later r c.requires.observed law;
+      observed = ran_sends m g.E.Emit.strings plan x.dispatch run.result before after c.first_fault.result
+          c.ran_as-ran.result c.sent.result x.new_dispatch run.ensures.sent is c.sent.ensures;
+      counted = ran_counted m (g.E.Emit.strings x.dispatch.plan) plan x.dispatch run.result before after c.sent.result
+          x.new_dispatch run.ensures.sent c.sent.ensures;
+      taken = gave_taken O.names O.list plan (λ (s : T). S.begun s.source) (λ (s : T). S.at s.source)
+          (λ (s : T). S.gives s.source) (λ (s : T). S.belongs s.source) (λ (s : T). S.given s.source)
+          (λ (s : T). S.faults s.source) old now c.of.result each later r c.requires.observed law;
       reports = are;
-      whole_reports = are_whole_reports O.names O.list plan (λ (s : T). S.begun s.source) (λ (s : T). S.at s.source) (λ (s : T). S.gives s.source) (λ (s : T). S.belongs s.source) (λ (s : T). S.given s.source) (λ (s : T). S.faults s.source) old now c.of.result each later r (some_of old some) c.requires.observed law;
+      whole_reports = are_whole_reports O.names O.list plan (λ (s : T). S.begun s.source) (λ (s : T). S.at s.source)
+          (λ (s : T). S.gives s.source) (λ (s : T). S.belongs s.source) (λ (s : T). S.given s.source)
+          (λ (s : T). S.faults s.source) old now c.of.result each later r (some_of old some) c.requires.observed law;
       cause = why;
-      done = ran_done plan (λ (s : T). S.faults s.source) old now (K.faults c.args.sink.now) (K.faults run.new.sink) c.ran_as-ran.result some why;
+      done = ran_done plan (λ (s : T). S.faults s.source) old now (K.faults c.args.sink.now)
+          (K.faults run.new.sink) c.ran_as-ran.result some why;
     }

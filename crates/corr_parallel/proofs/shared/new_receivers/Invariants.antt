@@ -7,6 +7,7 @@ use Rattle.corr_parallel.proofs.shared.new_receivers.Given as goal
 
 abbrev pub invariant-loop-antenna : goal.invariant-loop-antenna
 invariant-loop-antenna g l =
-    BuiltTo (IsNewReceiver l.plan) l.plan.antennas l.receivers.items (vec_len l.receivers) (vec_capacity l.receivers) l.antenna
+    BuiltTo (IsNewReceiver l.plan) l.plan.antennas l.receivers.items (vec_len l.receivers)
+    (vec_capacity l.receivers) l.antenna
     × Left l.fn.feeds.items (into_iter_items l.feeds_left) (into_iter_len l.feeds_left) l.antenna
     × Left l.fn.hands.items (into_iter_items l.hands_left) (into_iter_len l.hands_left) l.antenna

@@ -10,5 +10,6 @@ use Rattle.corr_parallel.proofs.shared.new_workers.Given as goal
 
 abbrev pub invariant-loop-number : goal.invariant-loop-number
 invariant-loop-number g l =
-    BuiltTo (λ w (x : WorkerView). x ≡ new_worker l.plan) (work_count l.plan) l.workers.items (vec_len l.workers) (vec_capacity l.workers) l.number
+    BuiltTo (λ w (x : WorkerView). x ≡ new_worker l.plan w) (work_count l.plan) l.workers.items (vec_len l.workers)
+    (vec_capacity l.workers) l.number
     × Left l.fn.works.items (into_iter_items l.works_left) (into_iter_len l.works_left) l.number

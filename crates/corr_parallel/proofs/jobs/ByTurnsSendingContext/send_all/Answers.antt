@@ -5,5 +5,12 @@ use Rattle.corr_parallel.proofs.jobs.ByTurnsSendingContext.send_all.Goals as goa
 pub returns-clause-sent : goal.returns-clause-sent
 returns-clause-sent g c =
     let O = g.O.Observation in
-    let m : Means = record { names = O.names; plan = O.plan; list = O.list; shows = g.B.Backend.shows; fixed = g.B.Backend.fixed } in
-    sent_all m (g.E.Emit.strings c.args.self.now.dispatch.plan) c.args.self.now.dispatch c.send_by_turns.new.dispatch _ _ c.requires.can.1.some c.send_by_turns.ensures.sent c.send_by_turns.ensures.all
+    let m : Means = record {
+      names = O.names;
+      plan = O.plan;
+      list = O.list;
+      shows = g.B.Backend.shows;
+      fixed = g.B.Backend.fixed;
+    } in
+    sent_all m (g.E.Emit.strings c.args.self.now.dispatch.plan) c.args.self.now.dispatch c.send_by_turns.new.dispatch _
+    _ c.requires.can.1.some c.send_by_turns.ensures.sent c.send_by_turns.ensures.all

@@ -5,5 +5,12 @@ use Rattle.corr_parallel.proofs.jobs.DispatchSendingContext.send_all.Goals as go
 pub returns-clause-sent : goal.returns-clause-sent
 returns-clause-sent g c =
     let O = g.O.Observation in
-    let m : Means = record { names = O.names; plan = O.plan; list = O.list; shows = g.B.Backend.shows; fixed = g.B.Backend.fixed } in
-    sent_all m (g.E.Emit.strings c.args.self.now.plan) c.args.self.now c.send.new.dispatch _ _ c.requires.can.some c.send.ensures.sent c.send.ensures.all
+    let m : Means = record {
+      names = O.names;
+      plan = O.plan;
+      list = O.list;
+      shows = g.B.Backend.shows;
+      fixed = g.B.Backend.fixed;
+    } in
+    sent_all m (g.E.Emit.strings c.args.self.now.plan) c.args.self.now c.send.new.dispatch _ _ c.requires.can.some
+    c.send.ensures.sent c.send.ensures.all
