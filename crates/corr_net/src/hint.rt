@@ -8,6 +8,20 @@ const NUMBERS: usize = 5;
 /// The greatest number of bytes of a word.
 const WORD_LIMIT: usize = 4096;
 
+/// The greatest number of digits of a number.
+const DIGITS: usize = 20;
+
+/// The names of the commands.
+const COMMANDS: [&str; 7] = [
+    "plain",
+    "correlate",
+    "trial",
+    "simulate",
+    "relay",
+    "inspect",
+    "decode",
+];
+
 /// The flag of `correlate` and `trial`.
 const SERIAL: &str = "--serial";
 
@@ -54,9 +68,11 @@ impl fmt::Display for Fault<'_> {
     }
 }
 
-// Whether the word is a number, which has digits alone.
+// Whether the word is a number, which has digits alone, and at most twenty of them.
 fn is_number(word: &str) -> bool {
-    word.bytes().all(|byte| byte.is_ascii_digit()) && word.parse::<u64>().is_ok()
+    word.len() <= DIGITS
+        && word.bytes().all(|byte| byte.is_ascii_digit())
+        && word.parse::<u64>().is_ok()
 }
 
 // The first operand that the command takes at no place, where it takes the flag or not.
@@ -144,6 +160,9 @@ fn fault_of<'a>(words: &'a [String]) -> Fault<'a> {
     let Some(command) = words.get(1) else {
         return Fault::NoCommand;
     };
+    if !COMMANDS.iter().any(|name| *name == command.as_str()) {
+        return Fault::NoSuchCommand(command.as_str());
+    }
     let operands = words.get(2..).unwrap_or(&[]);
     let takes_flag = matches!(command.as_str(), "correlate" | "trial");
     if let Some(fault) = bad_word(operands, takes_flag) {

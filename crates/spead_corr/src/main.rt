@@ -15,6 +15,9 @@ use std::process::ExitCode;
 /// The status of words that have no form.
 const USAGE: u8 = 1;
 
+/// The status of settings that are refused.
+const REFUSED: u8 = 2;
+
 fn main(rt: HostRuntime) -> ExitCode {
     let fault = PrintFault::new();
     let mut print = StdPrint::new(&rt, &fault);
@@ -39,11 +42,12 @@ fn main(rt: HostRuntime) -> ExitCode {
     let Ok(mut seats) = program_seats(rt.alloc(), &rt, &held, &fault) else {
         return ExitCode::from(no_memory(&mut print).code);
     };
+    let mut text = FileText::new(&rt, held.settings());
     let status = run::<Unheard, _, _, _, _, _, _>(
         &rt,
         rt.alloc(),
         words.as_slice(),
-        &mut FileText::new(&rt, held.settings()),
+        &mut text,
         seats.as_mut_slice(),
         &mut ProgramSink::new(&rt, &held, Progress::on(&rt.stderr())),
         &mut print,
@@ -51,6 +55,9 @@ fn main(rt: HostRuntime) -> ExitCode {
     );
     if status.code == USAGE {
         say_usage(&rt, words.as_slice());
+    }
+    if status.code == REFUSED {
+        text.say_refused(rt.alloc());
     }
     ExitCode::from(status.code)
 }
