@@ -91,9 +91,10 @@ fn any_number_of_workers_sends_the_same(rt: HostRuntime) -> Result<(), Fail> {
     Ok(())
 }
 
-// A gate at which the two receivers wait for one another, and the two workers as well.
+/// A gate at which the receiver of antenna 0 and another wait for one another, and the first worker
+/// and another as well.
 #[derive(Drop)]
-struct Meeting {
+pub struct Meeting {
     receivers: [AtomicBool; 2],
     workers: [AtomicBool; 2],
     sender: AtomicBool,
@@ -101,6 +102,16 @@ struct Meeting {
 }
 
 impl Meeting {
+    /// One at which nobody came.
+    pub fn new() -> Meeting {
+        Meeting {
+            receivers: [AtomicBool::new(false), AtomicBool::new(false)],
+            workers: [AtomicBool::new(false), AtomicBool::new(false)],
+            sender: AtomicBool::new(false),
+            alone: AtomicBool::new(false),
+        }
+    }
+
     // Says that one of two came, and waits for the other, for at most a million turns that each
     // yield the processor.
     fn meet(&self, both: &[AtomicBool; 2], number: usize) {
@@ -119,8 +130,8 @@ impl Meeting {
         self.alone.store(true, Ordering::SeqCst);
     }
 
-    // Whether each met the other, and the sender came.
-    fn is_met(&self) -> bool {
+    /// Whether each met the other, and the sender came.
+    pub fn is_met(&self) -> bool {
         self.receivers[0].load(Ordering::SeqCst)
             && self.workers[0].load(Ordering::SeqCst)
             && self.sender.load(Ordering::SeqCst)
@@ -140,12 +151,7 @@ impl Gate for Meeting {
 
 #[test]
 fn receivers_and_workers_must_see_each_other(rt: HostRuntime) -> Result<(), Fail> {
-    let meeting = Meeting {
-        receivers: [AtomicBool::new(false), AtomicBool::new(false)],
-        workers: [AtomicBool::new(false), AtomicBool::new(false)],
-        sender: AtomicBool::new(false),
-        alone: AtomicBool::new(false),
-    };
+    let meeting = Meeting::new();
     assert!(rt; is_right(&rt, rt.alloc(), "workers = 2", &meeting)?);
     assert!(rt; meeting.is_met());
     Ok(())

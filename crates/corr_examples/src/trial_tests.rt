@@ -3,10 +3,10 @@
 use crate::correlate_tests::{FOUR, text_of};
 use crate::outside::{Ended, Fault, run_over, words_of};
 use crate::packets::Strings;
-use crate::thread_tests::all_seats;
+use crate::thread_tests::{Meeting, all_seats};
 use corr_cli::run;
 use corr_model::Unheard;
-use corr_site::{ListPrint, ListSink, NoGate};
+use corr_site::{Gate, ListPrint, ListSink, NoGate};
 use std::alloc::Global;
 use std::sync::Wait;
 use std::test::Fail;
@@ -39,7 +39,12 @@ fn the_simulated_trial(rt: HostRuntime) -> Result<(), Fail> {
 }
 
 // Whether a trial in threads with so many workers ends well and prints the same.
-fn is_right<R: Threads + Wait + Sync>(rt: &R, alloc: Global, workers: &str) -> Result<bool, Fail> {
+fn is_right<G: Gate + Sync, R: Threads + Wait + Sync>(
+    rt: &R,
+    alloc: Global,
+    workers: &str,
+    gate: &G,
+) -> Result<bool, Fail> {
     let words = words_of(alloc, "spead_corr trial run.toml 7")?;
     let text = FOUR.replace(alloc, "workers = 4", workers)?;
     let mut settings = text_of(alloc, text.as_bytes(), false)?;
@@ -57,16 +62,25 @@ fn is_right<R: Threads + Wait + Sync>(rt: &R, alloc: Global, workers: &str) -> R
         seats.as_mut_slice(),
         &mut sink,
         &mut print,
-        &NoGate,
+        gate,
     );
     Ok(status.code == 0 && sink.len() == 24 && print.text() == SUMMARY)
 }
 
 #[test]
 fn threads_print_the_same(rt: HostRuntime) -> Result<(), Fail> {
-    assert!(rt; is_right(&rt, rt.alloc(), "workers = 0")?);
-    assert!(rt; is_right(&rt, rt.alloc(), "workers = 1")?);
-    assert!(rt; is_right(&rt, rt.alloc(), "workers = 4")?);
+    assert!(rt; is_right(&rt, rt.alloc(), "workers = 0", &NoGate)?);
+    assert!(rt; is_right(&rt, rt.alloc(), "workers = 1", &NoGate)?);
+    assert!(rt; is_right(&rt, rt.alloc(), "workers = 4", &NoGate)?);
+    Ok(())
+}
+
+// Each receiver and each worker has a thread of its own, since they wait for one another.
+#[test]
+fn a_trial_takes_threads(rt: HostRuntime) -> Result<(), Fail> {
+    let meeting = Meeting::new();
+    assert!(rt; is_right(&rt, rt.alloc(), "workers = 4", &meeting)?);
+    assert!(rt; meeting.is_met());
     Ok(())
 }
 
