@@ -1,6 +1,6 @@
 #!/usr/bin/env bash
 # How fast `plain` multiplies: complex multiply-accumulates a second at 16 antennas and 64 channels, beside a C program
-# that does the same work with a loop of the same form, compiled with `cc -O2` and with `cc -O3`. Both read the same
+# that does the same work with a plain loop, compiled with `cc -O2` and with `cc -O3`. Both read the same
 # captures, of heaps of one packet, and write the sums of all baselines. All times are processor times, the least of
 # some runs. What reading alone costs is measured with heaps of another antenna, which are read and not used, and is
 # taken off for the kernel.

@@ -1,6 +1,7 @@
 /* What `plain` does with one input, in plain C: it reads a capture file, decodes the packets, puts their heaps
- * together among those of the last eight openings, and looks at each whole heap for timestamp and antenna. The streams
- * are held to be well-formed: no refusal is told apart, and no byte is marked to find overlaps. It uses no sample.
+ * together among those of the last eight openings, with a bit for each byte that came, so that packets which overlap
+ * are found, and looks at each whole heap for timestamp and antenna. The streams are held to be well-formed: the first
+ * thing that is wrong ends the program. It uses no sample.
  * Usage: receive read|map CHANNELS SPECTRA ANTENNA CAPTURE. Prints how many heaps were whole, and how many of these are
  * of the antenna and have voltages. */
 #include <fcntl.h>
@@ -16,10 +17,11 @@ enum { WINDOW = 8, POINTERS = 64, AHEAD = 65536, RECORD = 65536 };
 enum { COUNTER = 1, SIZE = 2, OFFSET = 3, LENGTH = 4, TIMESTAMP = 0x1600, ANTENNA = 0x4101, VOLTAGES = 0x4300 };
 
 struct heap {
-    uint64_t counter, size, have;
+    uint64_t counter, size, have, ending;
     unsigned pointers;
     int whole;
     uint64_t pointer[POINTERS];
+    uint64_t *marks;
     unsigned char *bytes;
 };
 
@@ -102,12 +104,35 @@ static struct heap *find(uint64_t counter)
         if (heaps[i].counter == counter)
             return &heaps[i];
     struct heap *h = &heaps[opened++ % WINDOW];
+    memset(h->marks, 0, 8 * ((h->ending + 63) / 64));
     h->counter = counter;
     h->size = UINT64_MAX;
-    h->have = 0;
+    h->have = h->ending = 0;
     h->pointers = 0;
     h->whole = 0;
     return h;
+}
+
+/* Sets these bits of a word, and tells which stood there. */
+static uint64_t set(uint64_t *word, uint64_t bits)
+{
+    uint64_t met = *word & bits;
+    *word |= bits;
+    return met;
+}
+
+/* Whether one of these bytes came before; all of them have come now. Whole words are set and looked at at once. */
+static int overlaps(struct heap *h, uint64_t from, uint64_t to)
+{
+    uint64_t first = from / 64, last = to / 64, low = ~0ULL << from % 64, high = ~(~0ULL << to % 64), met;
+    if (first == last)
+        return set(h->marks + first, low & high) != 0;
+    met = set(h->marks + first, low);
+    if (from < h->ending)
+        for (uint64_t place = first + 1; place < last; place++)
+            met |= h->marks[place];
+    memset(h->marks + first + 1, 0xff, 8 * (last - first - 1));
+    return (met | set(h->marks + last, high)) != 0;
 }
 
 static void add_pointer(struct heap *h, uint64_t pointer)
@@ -181,7 +206,7 @@ static void packet(const unsigned char *bytes, size_t count)
         if (id <= LENGTH && pointer >> 63)
             said[id] = pointer & 0xffffffffffff;
     }
-    if (said[LENGTH] != count - front || limit < said[OFFSET] + said[LENGTH])
+    if (memcmp(bytes, "S\4\2\6", 4) || said[LENGTH] != count - front || limit < said[OFFSET] + said[LENGTH])
         fail("a stream that is not well-formed");
     struct heap *h = find(said[COUNTER]);
     if (h->whole)
@@ -191,8 +216,13 @@ static void packet(const unsigned char *bytes, size_t count)
         if (LENGTH < (pointer >> 48 & 0x7fff))
             add_pointer(h, pointer);
     }
+    uint64_t end = said[OFFSET] + said[LENGTH];
+    if (overlaps(h, said[OFFSET], end))
+        fail("packets that overlap");
     memcpy(h->bytes + said[OFFSET], bytes + front, said[LENGTH]);
     h->have += said[LENGTH];
+    if (h->ending < end)
+        h->ending = end;
     if (said[SIZE] != UINT64_MAX)
         h->size = said[SIZE];
     if (h->have == h->size) {
@@ -211,7 +241,7 @@ int main(int count, char **words)
     limit = wanted + 4096;
     antenna = strtoull(words[4], NULL, 10);
     for (unsigned i = 0; i < WINDOW; i++)
-        if (!(heaps[i].bytes = malloc(limit)))
+        if (!(heaps[i].bytes = malloc(limit)) || !(heaps[i].marks = calloc(limit / 64 + 1, 8)))
             fail("no memory");
     open_capture(&c, words[5], !strcmp(words[1], "map"));
     if (!(bytes = take(&c, 8)) || memcmp(bytes, "SPCAPT01", 8))

@@ -1,7 +1,8 @@
 #!/usr/bin/env bash
 # What threads bring: the same observation by `correlate --serial` and by `correlate` with 0, 1, 2 and 4 workers, at a
-# load that multiplies (16 antennas, 64 channels) and at one that receives (4 antennas, 1 channel). For each the least
-# seconds of some runs, how many times as fast as one worker that is, and the greatest memory. All outputs are equal.
+# load that multiplies (64 antennas, 64 channels), at one that does both (16 antennas, 64 channels) and at one that
+# receives (4 antennas, 1 channel). For each the least seconds of some runs, how many times as fast as one worker that
+# is, and the greatest memory. All outputs are equal.
 # Usage: bench/threads.sh [PROGRAM [RUNS]]
 set -euo pipefail
 
@@ -68,7 +69,9 @@ bench() {
                       name[i] == "serial" ? "--serial" : "workers " name[i], seconds[i], one / seconds[i], kib[i] }'
 }
 
-antennas=16 channels=64 spectra=64 heaps=64 accumulations=16
+antennas=64 channels=16 spectra=64 heaps=32 accumulations=32
 bench multiply
+antennas=16 channels=64 spectra=64 heaps=64 accumulations=16
+bench both
 antennas=4 channels=1 spectra=256 heaps=64 accumulations=768
 bench receive

@@ -1,8 +1,7 @@
 #!/usr/bin/env bash
 # How much memory `trial` takes for 64 simulated antennas, on one thread and in threads, beside the bytes that its plan
-# reserves, and how long it takes. Fails where one thread takes more than is reserved, or threads more than a tenth
-# above that and the payload of one visibility heap and 16 MiB: what is not reserved are that payload, the program
-# itself, and the stack and the line of each thread.
+# reserves, and how long it takes. Fails where it takes more than a tenth above that and the payload of one visibility
+# heap and 16 MiB: what is not reserved are that payload, the program itself, and the stack and the line of each thread.
 # Usage: bench/trial.sh [PROGRAM]
 set -euo pipefail
 
@@ -61,5 +60,6 @@ measure() {
 
 write_settings
 read -r bytes value < <(reserved)
-measure "$bytes" --serial
-measure $((bytes + bytes / 10 + value + 16777216))
+most=$((bytes + bytes / 10 + value + 16777216))
+measure "$most" --serial
+measure "$most"
