@@ -8,7 +8,7 @@ ghost use Rattle.corr_threads.specs.Receivers.{SourceTold, KeepsStream, HasReadA
 ghost use Rattle.corr_parallel.specs.Senders.{SentSoFar};
 
 use corr_model::Observation;
-use corr_site::{Gate, PacketSink, PacketSource};
+use corr_site::{ActorKind, Gate, PacketSink, PacketSource};
 use corr_threads::{Dispatch, Receiver, Turn, Worker};
 use slot_share::Share;
 use std::sync::Wait;
@@ -26,11 +26,13 @@ pub struct Context<'a, O: Observation, B: Backend, G: Gate> {
     pub gate: &'a G,
 }
 
-// Whether an actor goes on after this turn. After one that waits it waits for a change of the ring:
-// `seen` is the count of changes that was known before the turn, so that none is missed.
+// Whether an actor of this kind goes on after this turn. After one that waits it waits for a change
+// of the ring that can end its wait: `seen` is the count of such changes that was known before the
+// turn, so that none is missed.
 fn goes_on<O: Observation, B: Backend, R: Wait>(
     rt: &R,
     share: &Share<O, B>,
+    kind: ActorKind,
     turn: Turn,
     seen: &mut u64,
 ) -> bool
@@ -39,7 +41,7 @@ fn goes_on<O: Observation, B: Backend, R: Wait>(
     match turn {
         Turn::Moved => true,
         Turn::Waits => {
-            *seen = share.pause(rt, *seen);
+            *seen = share.pause_for(rt, kind, *seen);
             true
         }
         Turn::Done => false,
@@ -80,7 +82,7 @@ pub(crate) fn receive<O: Observation, B: Backend, S: PacketSource<O>, G: Gate, R
     let mut seen = 0;
     for _ in rt.forever() {
         let turn = receiver.turn(rt, &shared.share, source, shared.gate);
-        if !goes_on(rt, &shared.share, turn, &mut seen) {
+        if !goes_on(rt, &shared.share, ActorKind::Receive, turn, &mut seen) {
             break;
         }
     }
@@ -99,7 +101,7 @@ pub(crate) fn work<O: Observation, B: Backend, G: Gate, R: Wait>(
     let mut seen = 0;
     for _ in rt.forever() {
         let turn = worker.turn(rt, &shared.share, &shared.backend, shared.gate);
-        if !goes_on(rt, &shared.share, turn, &mut seen) {
+        if !goes_on(rt, &shared.share, ActorKind::Work, turn, &mut seen) {
             break;
         }
     }
@@ -128,7 +130,7 @@ pub(crate) fn send<
     let mut seen = 0;
     for _ in rt.forever() {
         let turn = dispatch.turn(rt, &shared.share, sink, shared.gate);
-        if !goes_on(rt, &shared.share, turn, &mut seen) {
+        if !goes_on(rt, &shared.share, ActorKind::Send, turn, &mut seen) {
             break;
         }
     }
@@ -165,7 +167,9 @@ pub(crate) fn send_by_turns<
     for _ in rt.forever() {
         let worked = worker.turn(rt, &shared.share, &shared.backend, shared.gate);
         let turn = dispatch.turn(rt, &shared.share, sink, shared.gate);
-        if !goes_on(rt, &shared.share, of_both(worked, turn), &mut seen) {
+        // The sender waits for what this thread's worker stores, so both wait for columns.
+        let both = of_both(worked, turn);
+        if !goes_on(rt, &shared.share, ActorKind::Work, both, &mut seen) {
             break;
         }
     }

@@ -1,5 +1,5 @@
 -- What a worker shows, what it keeps, and its turns. This project's own.
-use Rattle.std.specs.Prelude.{◌≡◌, ℕ, ◌+◌, ◌-◌, ◌^◌, ◌<◌, ◌≤◌, min, List, length, get_or, Option, Some, None}
+use Rattle.std.specs.Prelude.{◌≡◌, ◌⊎◌, ℕ, ◌+◌, ◌-◌, ◌^◌, ◌<◌, ◌≤◌, min, List, length, get_or, Option, Some, None}
 use Rattle.corr_model.specs.declared.plan.Plan.{Plan}
 use Rattle.corr_model.specs.Plans.{Fits}
 use Rattle.slot_ring.specs.declared.held.Held.{Held}
@@ -9,11 +9,17 @@ use Rattle.slot_ring.specs.Answers.{RefusesTake}
 use Rattle.corr_threads.specs.declared.turn.Turn.{Turn}
 use Rattle.corr_threads.specs.declared.turn.Turn.TheVariants as turns
 
--- what a worker shows: which of the workers it is, for each slot what it showed when it refused last, and how many
--- works were computed
+-- the slot that comes so many after this one, where the first comes after the last
+pub record IsAfter (slots from count slot : ℕ) : Type 0 where
+  pub inside : slot < slots
+  pub at : (slot ≡ from + count) ⊎ (slot + slots ≡ from + count)
+
+-- what a worker shows: which of the workers it is, the slot that it tries first, for each slot what it showed when it
+-- refused last, and how many works were computed
 pub record WorkerView : Type 0 where
   pub plan : Plan
   pub number : ℕ
+  pub first : ℕ
   pub held : List (Option Held)
   pub computed : ℕ
 
@@ -22,6 +28,7 @@ pub record IsWorker (v : WorkerView) (work : WorkView) : Type 0 where
   pub fits : Fits v.plan
   pub same_plan : work.plan ≡ v.plan
   pub free : work.stage ≡ Free
+  pub first_inside : v.first < v.plan.slots
   pub each_slot : length v.held ≡ v.plan.slots
 
 -- what the slot showed when it refused last can't be taken
@@ -30,13 +37,18 @@ pub record RefusesAt (v : WorkerView) (slot : ℕ) : Type 0 where
   pub is_held : get_or v.held slot None ≡ Some shown
   pub refuses : RefusesTake shown v.plan
 
--- so it is with each of the first slots
-abbrev pub RefusesTo : WorkerView → ℕ → Type 0
-RefusesTo v count = (s : ℕ) → s < count → RefusesAt v s
-
 -- so it is with each slot
 abbrev pub RefusesEach : WorkerView → Type 0
-RefusesEach v = RefusesTo v v.plan.slots
+RefusesEach v = (s : ℕ) → s < v.plan.slots → RefusesAt v s
+
+-- so it is with each of so many slots, from this one on
+abbrev pub RefusesFrom : WorkerView → ℕ → ℕ → Type 0
+RefusesFrom v from count = (i s : ℕ) → i < count → IsAfter v.plan.slots from i s → RefusesAt v s
+
+-- what the slots showed when they refused last is as it was, but for so many from this one on
+abbrev pub StayPast : WorkerView → WorkerView → ℕ → ℕ → Type 0
+StayPast old new from count = (i s : ℕ) → count ≤ i → i < new.plan.slots → IsAfter new.plan.slots from i s
+    → get_or new.held s None ≡ get_or old.held s None
 
 -- what the slot showed when it refused last has a number past the last
 pub record PastAt (v : WorkerView) (slot : ℕ) : Type 0 where
@@ -52,14 +64,18 @@ PastTo v count = (s : ℕ) → s < count → PastAt v s
 abbrev pub EachPast : WorkerView → Type 0
 EachPast v = PastTo v v.plan.slots
 
--- one work more was computed; the count stays at 2^64 - 1 once it is there. The slots before that of the work refused
--- in this turn, and what that one and those after it showed when they refused last is as it was
+-- one work more was computed; the count stays at 2^64 - 1 once it is there. The slots from the first that is tried up to
+-- that of the work refused in this turn, and what that one and the others showed when they refused last is as it was.
+-- The next turn begins behind that slot
 pub record ComputesOne (old new : WorkerView) : Type 0 where
   pub one_more : new.computed ≡ min (old.computed + 1) (2 ^ 64 - 1)
+  pub tried : ℕ
   pub slot : ℕ
-  pub is_slot : slot < new.plan.slots
-  pub refuses : RefusesTo new slot
-  pub others : (s : ℕ) → slot ≤ s → get_or new.held s None ≡ get_or old.held s None
+  pub is_left : tried < new.plan.slots
+  pub is_slot : IsAfter new.plan.slots old.first tried slot
+  pub refuses : RefusesFrom new old.first tried
+  pub others : StayPast old new old.first tried
+  pub next : IsAfter new.plan.slots slot 1 new.first
 
 -- each slot refuses, and not each has a number past the last
 pub record WaitsForWork (v : WorkerView) : Type 0 where
@@ -77,11 +93,16 @@ WorkerCause old turns.Moved new = ComputesOne old new
 WorkerCause old turns.Waits new = WaitsForWork new
 WorkerCause old turns.Done new = HasNoWork new
 
+-- nothing was computed, and the next turn begins at the same slot
+pub record RestsAt (old new : WorkerView) : Type 0 where
+  pub same_computed : new.computed ≡ old.computed
+  pub same_first : new.first ≡ old.first
+
 -- what a turn that does not move keeps
 abbrev pub WorkerRests : WorkerView → Turn → WorkerView → Type 0
 WorkerRests old turns.Moved new = Unit {0}
-WorkerRests old turns.Waits new = new.computed ≡ old.computed
-WorkerRests old turns.Done new = new.computed ≡ old.computed
+WorkerRests old turns.Waits new = RestsAt old new
+WorkerRests old turns.Done new = RestsAt old new
 
 -- a turn of a worker
 pub record WorkerTurn (old : WorkerView) (answer : Turn) (new : WorkerView) : Type 0 where

@@ -1,7 +1,7 @@
 //! The actor that correlates accumulations.
 
-ghost use Rattle.std.specs.Prelude.{◌≡◌, ◌≢◌, ◌<◌, ◌≤◌, true, Some, length, get_or, None, IfOk, MatchBool, replicate};
-ghost use Rattle.corr_threads.specs.Workers.{WorkerView, WorkerTurn, RefusesEach, RefusesTo, EachPast, PastAt};
+ghost use Rattle.std.specs.Prelude.{◌≡◌, ◌≢◌, ◌<◌, ◌≤◌, ◌⊎◌, true, Some, length, get_or, None, IfOk, MatchBool, replicate};
+ghost use Rattle.corr_threads.specs.Workers.{WorkerView, WorkerTurn, IsAfter, EachPast, PastAt};
 ghost use Rattle.corr_model.specs.Plans.{Fits};
 ghost use Rattle.slot_ring.specs.declared.work.Stage.{Stage};
 
@@ -20,6 +20,8 @@ use vis_back::Backend;
 pub struct Worker<O: Observation, B: Backend> {
     plan: Plan,
     number: u32,
+    // The slot that is tried first: the one after that of the last work.
+    first: u32,
     work: Work<O, B>,
     held: Vec<Option<Held>>,
     computed: u64,
@@ -30,10 +32,22 @@ impl<O: Observation, B: Backend> Model for Worker<O, B> {
 
     ghost Value = { WorkerView };
 
-    ghost view = { λ s. record { plan = s.plan; number = s.number; held = s.held.items; computed = s.computed } };
+    ghost view = { λ s. record { plan = s.plan; number = s.number; first = s.first; held = s.held.items; computed = s.computed } };
 
     ghost invariant = { λ s. IsWorker
-        (record { plan = s.plan; number = s.number; held = s.held.items; computed = s.computed }) s.work };
+        (record { plan = s.plan; number = s.number; first = s.first; held = s.held.items; computed = s.computed }) s.work };
+}
+
+// The slot that comes so many after this one, where the first comes after the last.
+#[tactic(auto, using(crate::proofs::WorkerLemmas::after_inside, crate::proofs::WorkerLemmas::after_wrapped))]
+fn slot_after(slots: u32, from: u32, count: u32) -> u32
+    requires few { slots ≤ 64 }
+    requires from { from < slots }
+    requires count { count ≤ slots }
+    ensures { IsAfter slots from count result }
+{
+    let slot = from + count;
+    if slot < slots { slot } else { slot - slots }
 }
 
 impl<O: Observation, B: Backend> Worker<O, B> {
@@ -48,19 +62,21 @@ impl<O: Observation, B: Backend> Worker<O, B> {
         requires fits { Fits plan.now }
         requires free { (work.stage ≡ Stage.Free) × (work.plan ≡ plan.now) }
         ensures { IfOk result (λ w. w
-            ≡ record { plan = plan.now; number = number; held = replicate plan.now.slots None; computed = 0 }) }
+            ≡ record { plan = plan.now; number = number; first = 0; held = replicate plan.now.slots None; computed = 0 }) }
     {
         Ok(Worker {
             plan: *plan,
             number,
+            first: 0,
             work,
             held: vec![in alloc; None; plan.slots as usize]?,
             computed: 0,
         })
     }
 
-    /// One turn: the first slot that can be taken is computed and stored. It passes the gate first,
-    /// and waits for nothing else but the ring's lock.
+    /// One turn: the first slot that can be taken is computed and stored. The slots are tried in their
+    /// order, from the one after that of the last work on, so that accumulations are taken oldest
+    /// first. It passes the gate first, and waits for nothing else but the ring's lock.
     pub fn turn<G: Gate, R: Wait>(
         &mut self,
         rt: &R,
@@ -75,12 +91,15 @@ impl<O: Observation, B: Backend> Worker<O, B> {
             kind: ActorKind::Work,
             number: self.number,
         });
-        for slot in 0..self.plan.slots {
+        let slots = self.plan.slots;
+        for tried in 0..slots {
+            let slot = slot_after(slots, self.first, tried);
             match share.take(rt, slot, &mut self.work) {
                 Took::Taken => {
                     self.work.compute(backend);
                     share.store(rt, &mut self.work);
                     self.computed = self.computed.saturating_add(1);
+                    self.first = slot_after(slots, slot, 1);
                     return Turn::Moved;
                 }
                 Took::Not(held) => self.held[slot as usize] = Some(held),

@@ -3,20 +3,28 @@
 ghost use Rattle.std.specs.Prelude.{◌≡◌, ◌≢◌, ◌<◌, ◌^◌, true};
 ghost use Rattle.slot_share.specs.Shares.{SharePuts, ShareTakes, ShareStores, ShareSends};
 
+use crate::bell::Bell;
 use corr_model::{Observation, Plan};
+use corr_site::ActorKind;
 use slot_column::Closed;
 use slot_ring::{Gave, Outgoing, Put, Ring, Stage, Stored, Took, Work};
-use std::sync::{Condvar, Mutex, Wait};
+use std::sync::{Mutex, Wait};
 use vis_back::Backend;
 
 /// The ring of a plan, shared between threads. Each of its four changes is one call of `Ring`, in
-/// one hold of the ring's lock, and is told to whoever waits for one. No call takes memory, and
-/// none holds both locks at once.
+/// one hold of the ring's lock, and is told to whoever waits for one of its kind. No call takes
+/// memory, and none holds two locks at once.
 #[derive(Drop)]
 pub struct Share<O: Observation, B: Backend> {
     ring: Mutex<Ring<O, B>>,
-    changes: Mutex<u64>,
-    changed: Condvar,
+    // Each change.
+    changes: Bell,
+    // A slot takes columns of its next number.
+    rooms: Bell,
+    // A slot has a column more, or its next number, which may be past the last.
+    columns: Bell,
+    // A slot has its value.
+    values: Bell,
 }
 
 impl<O: Observation, B: Backend> Share<O, B> {
@@ -24,8 +32,10 @@ impl<O: Observation, B: Backend> Share<O, B> {
     pub fn new(ring: Ring<O, B>) -> Share<O, B> {
         Share {
             ring: Mutex::new(ring),
-            changes: Mutex::new(0),
-            changed: Condvar::new(),
+            changes: Bell::new(),
+            rooms: Bell::new(),
+            columns: Bell::new(),
+            values: Bell::new(),
         }
     }
 
@@ -36,7 +46,8 @@ impl<O: Observation, B: Backend> Share<O, B> {
     {
         let put = self.ring.lock(rt).put(hand);
         if matches!(put, Put::Placed) {
-            self.tell(rt);
+            self.columns.ring(rt);
+            self.changes.ring(rt);
         }
         put
     }
@@ -49,7 +60,7 @@ impl<O: Observation, B: Backend> Share<O, B> {
     {
         let took = self.ring.lock(rt).take(slot, work);
         if matches!(took, Took::Taken) {
-            self.tell(rt);
+            self.changes.ring(rt);
         }
         took
     }
@@ -61,7 +72,8 @@ impl<O: Observation, B: Backend> Share<O, B> {
     {
         let stored = self.ring.lock(rt).store(work);
         if matches!(stored, Stored::Stored) {
-            self.tell(rt);
+            self.values.ring(rt);
+            self.changes.ring(rt);
         }
         stored
     }
@@ -73,17 +85,11 @@ impl<O: Observation, B: Backend> Share<O, B> {
     {
         let gave = self.ring.lock(rt).send(number, outgoing);
         if matches!(gave, Gave::Given) {
-            self.tell(rt);
+            self.rooms.ring(rt);
+            self.columns.ring(rt);
+            self.changes.ring(rt);
         }
         gave
-    }
-
-    // Counts a change, and wakes whoever waits for one. It comes after the hold of the ring's lock,
-    // so that a thread that reads the count before it looks at the ring misses no change.
-    fn tell<R: Wait>(&self, rt: &R) {
-        let mut changes = self.changes.lock(rt);
-        *changes = changes.wrapping_add(1);
-        self.changed.notify_all();
     }
 
     /// Waits until the count of changes, which wraps at 2^64, is not `seen`, and answers the count.
@@ -93,8 +99,20 @@ impl<O: Observation, B: Backend> Share<O, B> {
     pub fn pause<R: Wait>(&self, rt: &R, seen: u64) -> u64
         ensures changed { result ≢ seen }
     {
-        *self
-            .changed
-            .wait_while(rt, self.changes.lock(rt), |changes| *changes == seen)
+        self.changes.wait(rt, seen)
+    }
+
+    /// Waits as `pause` does, on the count of the changes that can end the wait of an actor of this
+    /// kind: a receiver waits for room, so for a value that is given; a worker for columns, or for
+    /// a number past the last; the sender for a value that is stored. `seen` is what the last call
+    /// for this kind answered, or 0 before any.
+    pub fn pause_for<R: Wait>(&self, rt: &R, kind: ActorKind, seen: u64) -> u64
+        ensures changed { result ≢ seen }
+    {
+        match kind {
+            ActorKind::Receive => self.rooms.wait(rt, seen),
+            ActorKind::Work => self.columns.wait(rt, seen),
+            ActorKind::Send => self.values.wait(rt, seen),
+        }
     }
 }

@@ -5,6 +5,7 @@ ghost use Rattle.corr_model.specs.Plans.{Fits};
 
 use crate::Share;
 use corr_model::{Observation, Plan, Unheard};
+use corr_site::ActorKind;
 use slot_column::{Closed, Column};
 use slot_ring::{Gave, Held, Kind, Outgoing, Put, Ring, Stage, Stored, Took, Work};
 use std::alloc::{AllocError, Global};
@@ -194,6 +195,31 @@ fn an_accumulation_goes_round(rt: HostRuntime) -> Result<(), Fail> {
     assert_eq!(rt; outgoing.number(), 0);
     assert_eq!(rt; outgoing.out().added, 3);
     assert_eq!(rt; share.pause(&rt, 4), 5);
+    Ok(())
+}
+
+// A worker waits for a column or a value that is given, a receiver for a value that is given, and the
+// sender for one that is stored.
+#[test]
+fn each_kind_waits_for_its_own_changes(rt: HostRuntime) -> Result<(), Fail> {
+    assert!(rt; PLAN.fits());
+    let alloc = rt.alloc();
+    let share = Share::new(Ring::new(alloc, &PLAN, &Counting)?);
+    let mut work = Work::new(alloc, &PLAN, &Counting)?;
+    let mut outgoing = Outgoing::new(alloc, &PLAN, &Counting)?;
+    share.put(&rt, &mut closed(alloc, &PLAN, 0, 0)?);
+    assert_eq!(rt; share.pause_for(&rt, ActorKind::Work, 0), 1);
+    share.put(&rt, &mut closed(alloc, &PLAN, 1, 0)?);
+    assert_eq!(rt; share.pause_for(&rt, ActorKind::Work, 1), 2);
+    assert_eq!(rt;
+        work_on(&rt, &share, &share, 0, &mut work),
+        Ok(Stored::Stored)
+    );
+    assert_eq!(rt; share.pause_for(&rt, ActorKind::Send, 0), 1);
+    assert_eq!(rt; share.send(&rt, 0, &mut outgoing), Gave::Given);
+    assert_eq!(rt; share.pause_for(&rt, ActorKind::Receive, 0), 1);
+    assert_eq!(rt; share.pause_for(&rt, ActorKind::Work, 2), 3);
+    assert_eq!(rt; share.pause_for(&rt, ActorKind::Send, 9), 1);
     Ok(())
 }
 
