@@ -12,7 +12,7 @@ source -- "${BASH_SOURCE[0]%/*}/common.sh" "${1:-}"
 packets=131072
 pieces=64
 payload=1024
-runs=9
+runs=25
 
 # Writes the three captures. Each packet says counter, size, offset and length; timestamp, antenna 1 and voltages stand
 # in the packet at offset 0.

@@ -1,6 +1,6 @@
 #!/usr/bin/env bash
 # What threads bring: the same observation by `correlate --serial` and by `correlate` with 0, 1, 2 and 4 workers, at a
-# load that multiplies (64 antennas, 64 channels), at one that does both (16 antennas, 64 channels) and at one that
+# load that multiplies (64 antennas, 16 channels), at one that does both (16 antennas, 64 channels) and at one that
 # receives (4 antennas, 1 channel). For each the least seconds of some runs, how many times as fast as one worker that
 # is, and the greatest memory. All outputs are equal.
 # Usage: bench/threads.sh [PROGRAM [RUNS]]
@@ -8,6 +8,14 @@ set -euo pipefail
 
 source -- "${BASH_SOURCE[0]%/*}/common.sh" "${1:-}"
 runs=${2:-3}
+
+# The output is made anew for each run, in memory where there is a folder for that: a disk that is slow to take or to
+# close it would count as time in which no thread works.
+output=$folder/out.cap
+if [ -w /dev/shm ]; then
+    output=$(mktemp -p /dev/shm)
+fi
+trap 'rm -rf -- "$folder" "$output"' EXIT
 
 # Writes the settings for this number of workers.
 write_settings() {
@@ -26,7 +34,7 @@ slots = 8
 workers = $1
 preset = true
 inputs = [${inputs%, }]
-output = "$folder/out.cap"
+output = "$output"
 TOML
 }
 
@@ -40,16 +48,17 @@ measure() {
         write_settings "$name"
     fi
     for ((run = 0; run < runs; run++)); do
+        rm -f "$output"
         /usr/bin/time -o "$folder/time" -f '%e %M' "$program" correlate "${flags[@]}" "$folder/settings.toml" >"$folder/text"
         read -r seconds kib <"$folder/time"
         least=$(awk -v least="$least" -v t="$seconds" 'BEGIN { print (least == "" || t < least) ? t : least }')
         most=$((kib > most ? kib : most))
     done
-    cmp -s "$folder/out.cap" "$folder/first.cap" 2>/dev/null || [ ! -e "$folder/first.cap" ] || {
+    cmp -s "$output" "$folder/first.cap" 2>/dev/null || [ ! -e "$folder/first.cap" ] || {
         echo "bench: another output with $name" >&2
         return 1
     }
-    [ -e "$folder/first.cap" ] || cp "$folder/out.cap" "$folder/first.cap"
+    [ -e "$folder/first.cap" ] || cp "$output" "$folder/first.cap"
     echo "$name $least $most"
 }
 
@@ -69,7 +78,7 @@ bench() {
                       name[i] == "serial" ? "--serial" : "workers " name[i], seconds[i], one / seconds[i], kib[i] }'
 }
 
-antennas=64 channels=16 spectra=64 heaps=32 accumulations=32
+antennas=64 channels=16 spectra=64 heaps=64 accumulations=48
 bench multiply
 antennas=16 channels=64 spectra=64 heaps=64 accumulations=16
 bench both
