@@ -15,15 +15,28 @@ const ONE_PACKET: [u8; 80] = [
     0,
 ];
 
-// A reader of these bytes, whose reads with these numbers fail.
-fn reader_of(alloc: Global, bytes: &[u8], fails: Vec<u64>) -> Result<CaptureReader<ListText>, Fail>
+// A reader of these bytes in this room, whose reads with these numbers fail.
+fn reader_in(
+    room: Room,
+    alloc: Global,
+    bytes: &[u8],
+    fails: Vec<u64>,
+) -> Result<CaptureReader<ListText>, Fail>
     ensures begun { IfOk result (λ r. r.begun ≡ true) }
     ensures whole { IfOk result (λ r. r.broken ≡ false) }
 {
     let path = Text::new(alloc, "a.cap")?;
     let mut text = ListText::new(bytes.to_vec(alloc)?, fails, false);
     text.begin(&path)?;
-    Ok(CaptureReader::new(text))
+    Ok(CaptureReader::new(text, room))
+}
+
+// The same in room of its own.
+fn reader_of(alloc: Global, bytes: &[u8], fails: Vec<u64>) -> Result<CaptureReader<ListText>, Fail>
+    ensures begun { IfOk result (λ r. r.begun ≡ true) }
+    ensures whole { IfOk result (λ r. r.broken ≡ false) }
+{
+    reader_in(Room::new(alloc)?, alloc, bytes, fails)
 }
 
 // What a reader of these bytes answers first, and then again where it did not fail.
@@ -61,6 +74,20 @@ fn the_bytes_of_the_packet_stand_in_the_buffer(rt: HostRuntime) -> Result<(), Fa
     let mut buf = [0; 65536];
     assert_eq!(rt; reader.next(&mut buf), Captured::Packet(68));
     assert_eq!(rt; &buf[..68], &ONE_PACKET[12..]);
+    Ok(())
+}
+
+#[test]
+fn a_second_reader_in_the_same_room_reads_its_own_bytes(rt: HostRuntime) -> Result<(), Fail> {
+    let mut first = reader_of(rt.alloc(), &ONE_PACKET, Vec::new(rt.alloc()))?;
+    let mut buf = [0; 65536];
+    assert_eq!(rt; first.next(&mut buf), Captured::Packet(68));
+    let room = first.into_room();
+    let mut second = reader_in(room, rt.alloc(), &ONE_PACKET[..12], Vec::new(rt.alloc()))?;
+    assert_eq!(rt;
+        second.next(&mut buf),
+        Captured::Refused(CaptureRefusal::Cut)
+    );
     Ok(())
 }
 
