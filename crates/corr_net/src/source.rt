@@ -1,6 +1,6 @@
 //! A capture file or a UDP socket as a source of byte strings.
 
-ghost use Rattle.std.specs.Prelude.{◌≡◌, ◌≤◌, true, false, None, IfOk, is_some};
+ghost use Rattle.std.specs.Prelude.{◌≡◌, ◌≤◌, true, false, None, IfOk, is_ok, is_some};
 ghost use Rattle.corr_site.specs.Outside.{NextFits, Rises, NextHasCause};
 ghost use Rattle.corr_net.specs.Adapters.{FailsAgain};
 
@@ -8,9 +8,10 @@ use crate::held::{Held, HeldFiles};
 use crate::label::{Label, Role};
 use crate::print::PrintFault;
 use crate::raw::{Opened, one_more};
-use capture_file::{CaptureReader, CaptureRefusal, Captured};
+use capture_file::{CaptureReader, CaptureRefusal, Captured, Room};
 use corr_model::Observation;
-use corr_site::{Failed, Next, PacketSource, Place};
+use corr_site::{Failed, Next, NoMemory, PacketSource, Place};
+use std::alloc::Global;
 use std::fs::OpenFile;
 use std::io::ErrorKind;
 use std::net::{Net, UdpSocket};
@@ -28,8 +29,8 @@ const TRIES: u32 = 1_000_000;
 enum Input<'a, R: Files + Eprint> {
     /// The records of a capture file.
     Capture(Records<'a, R>),
-    /// The datagrams that come to an address.
-    Socket(UdpSocket),
+    /// The datagrams that come to an address, beside the room that a capture would be read in.
+    Socket(UdpSocket, Room),
 }
 
 /// The records of a capture file that is open.
@@ -41,30 +42,34 @@ struct Records<'a, R: Files + Eprint> {
 
 /// A capture file that gives its records, or a UDP address that gives the datagrams that come to
 /// it, and ends only after standard output failed. It tells nothing of them. After a failure it
-/// fails at every call of `next`, until it is begun again.
+/// fails at every call of `next`, until it is begun again. From the beginning it has the room that
+/// a capture is read in.
 #[derive(Drop)]
 pub struct ProgramSource<'a, R: Files + Eprint> {
     system: &'a R,
     held: &'a Held,
     print: &'a PrintFault,
     input: Option<Input<'a, R>>,
+    room: Option<Room>,
     label: Label,
     given: u64,
     is_broken: bool,
     faults: u64,
+    ghost has_room: { is_some input ≡ false → is_some room ≡ true },
 }
 
 /// The source of this number, not begun. It notes the file that it opens in `held`, and looks at
-/// `print`.
+/// `print`. `NoMemory` comes only for want of memory.
 pub fn program_source<'a, R: Files + Net + Eprint>(
+    alloc: Global,
     system: &'a R,
     held: &'a HeldFiles,
     number: usize,
     print: &'a PrintFault,
-) -> ProgramSource<'a, R>
-    ensures { is_some result.input ≡ false }
+) -> Result<ProgramSource<'a, R>, NoMemory>
+    ensures { IfOk result (λ s. is_some s.input ≡ false) }
 {
-    ProgramSource::new(system, held.input(number), print)
+    ProgramSource::new(alloc, system, held.input(number), print)
 }
 
 /// Why a capture file is refused, behind so many records.
@@ -111,34 +116,67 @@ fn receive(socket: &UdpSocket, buf: &mut [u8; 65536]) -> std::io::Result<usize>
 
 impl<'a, R: Files + Net + Eprint> ProgramSource<'a, R> {
     /// A source that is not begun. It notes the file that it opens in `held`, and looks at `print`.
-    pub fn new(system: &'a R, held: &'a Held, print: &'a PrintFault) -> Self
-        ensures { is_some result.input ≡ false }
+    /// `NoMemory` comes only for want of memory.
+    pub fn new(
+        alloc: Global,
+        system: &'a R,
+        held: &'a Held,
+        print: &'a PrintFault,
+    ) -> Result<Self, NoMemory>
+        ensures { IfOk result (λ s. is_some s.input ≡ false) }
     {
-        ProgramSource {
+        Ok(ProgramSource {
             system,
             held,
             print,
             input: None,
+            room: Some(Room::new(alloc)?),
             label: Label::new(Role::Input(0), ""),
             given: 0,
             is_broken: false,
             faults: 0,
+        })
+    }
+
+    // Closes what was open, and keeps its room.
+    fn close(&mut self)
+        ensures input { is_some self.new.input ≡ false }
+        ensures faults { self.new.faults ≡ self.old.faults }
+    {
+        match self.input.take() {
+            Some(Input::Capture(records)) => self.room = Some(records.reader.into_room()),
+            Some(Input::Socket(_, room)) => self.room = Some(room),
+            None => {}
         }
     }
 
-    // Opens a capture file and notes it, or binds to an address.
-    fn open(&self, antenna: u32, place: &Place) -> std::io::Result<Input<'a, R>> {
-        let path = place.text.as_str();
-        if place.udp {
-            return Ok(Input::Socket(UdpSocket::bind(self.system, path)?));
-        }
+    // Opens a file and notes it.
+    fn open_file(&self, antenna: u32, path: &str) -> std::io::Result<Opened<'a, R, R::File>> {
         let file = fs::open(self.system, path)?;
         if let Ok(node) = file.metadata() {
             self.held.set(&node);
         }
         let label = Label::new(Role::Input(antenna), path);
-        let reader = CaptureReader::new(Opened::new(self.system, label, file));
-        Ok(Input::Capture(Records { reader }))
+        Ok(Opened::new(self.system, label, file))
+    }
+
+    // Opens a capture file, or binds to an address. Where that fails, the room is kept.
+    fn open(&mut self, antenna: u32, place: &Place) -> std::io::Result<()>
+        requires closed { is_some self.old.input ≡ false }
+        ensures input { is_some self.new.input ≡ is_ok result }
+        ensures faults { self.new.faults ≡ self.old.faults }
+    {
+        let path = place.text.as_str();
+        let input = if place.udp {
+            let socket = UdpSocket::bind(self.system, path)?;
+            Input::Socket(socket, self.room.take().unwrap())
+        } else {
+            let file = self.open_file(antenna, path)?;
+            let reader = CaptureReader::new(file, self.room.take().unwrap());
+            Input::Capture(Records { reader })
+        };
+        self.input = Some(input);
+        Ok(())
     }
 
     // The next byte string, where no call failed before.
@@ -162,8 +200,8 @@ impl<'a, R: Files + Net + Eprint> ProgramSource<'a, R> {
                 Captured::Failed => Next::Failed,
             },
             // Nobody reads what comes of it any more, and it would never end by itself.
-            Some(Input::Socket(_)) if self.print.has_come() => Next::End,
-            Some(Input::Socket(socket)) => match receive(socket, buf) {
+            Some(Input::Socket(..)) if self.print.has_come() => Next::End,
+            Some(Input::Socket(socket, _)) => match receive(socket, buf) {
                 Ok(len) => Next::Packet(len),
                 Err(error) => {
                     self.label.say(self.system, error);
@@ -216,14 +254,11 @@ impl<O: Observation, R: Files + Net + Eprint> PacketSource<O> for ProgramSource<
         self.is_broken = false;
         self.given = 0;
         self.label = Label::new(Role::Input(antenna), place.text.as_str());
+        self.close();
         match self.open(antenna, place) {
-            Ok(input) => {
-                self.input = Some(input);
-                Ok(())
-            }
+            Ok(()) => Ok(()),
             Err(error) => {
                 self.label.say(self.system, error);
-                self.input = None;
                 self.faults = one_more(self.faults);
                 Err(Failed)
             }

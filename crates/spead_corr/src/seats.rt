@@ -28,10 +28,11 @@ pub fn program_seats<'a, R: Files + Net + Eprint>(
     ensures count { IfOk result (λ v. vec_len v ≡ 64) }
     ensures unbegun { IfOk result (λ v. All (λ s. is_some s.source.input ≡ false) v.items) }
 {
-    // A seat has room for what its source reads ahead, so none is moved by a vector that grows.
+    // A seat has room for names and for its receiver, so none is moved by a vector that grows.
     let mut seats = Vec::with_capacity(alloc, SEATS)?;
     for number in 0..SEATS {
-        seats.push(Seat::new(program_source(system, held, number, print)))?;
+        let source = program_source(alloc, system, held, number, print)?;
+        seats.push(Seat::new(source))?;
     }
     Ok(seats)
 }

@@ -10,5 +10,5 @@ loop-number-preserved g c =
     record {
       count = more;
       unbegun = subst (All (λ s. is_some s.source.input ≡ false)) (sym c.in_ok-push.ensures.items)
-          (All-push (λ s. is_some s.source.input ≡ false) c.loop-number.seats.items c.new.result c.loop-number.invariant.unbegun (subst (λ s. is_some s.input ≡ false) (sym c.new.ensures.source) c.program_source.ensures));
+          (All-push (λ s. is_some s.source.input ≡ false) c.loop-number.seats.items c.new.result c.loop-number.invariant.unbegun (subst (λ s. is_some s.input ≡ false) (sym c.new.ensures.source) c.in_ok-source.ensures));
     }
