@@ -1,6 +1,6 @@
 #!/usr/bin/env bash
 # What threads bring: the same observation by `correlate --serial` and by `correlate` with 0, 1, 2 and 4 workers, at a
-# load that multiplies (64 antennas, 16 channels), at one that does both (16 antennas, 64 channels) and at one that
+# load that multiplies (64 antennas, 4 channels), at one that does both (16 antennas, 64 channels) and at one that
 # receives (4 antennas, 1 channel). For each the least seconds of some runs, how many times as fast as one worker that
 # is, and the greatest memory. All outputs are equal.
 # Usage: bench/threads.sh [PROGRAM [RUNS]]
@@ -78,7 +78,7 @@ bench() {
                       name[i] == "serial" ? "--serial" : "workers " name[i], seconds[i], one / seconds[i], kib[i] }'
 }
 
-antennas=64 channels=16 spectra=64 heaps=64 accumulations=48
+antennas=64 channels=4 spectra=256 heaps=16 accumulations=192
 bench multiply
 antennas=16 channels=64 spectra=64 heaps=64 accumulations=16
 bench both
