@@ -5,6 +5,7 @@
 mod held;
 mod hint;
 mod label;
+mod limits;
 mod print;
 mod progress;
 mod raw;
@@ -17,7 +18,7 @@ pub use hint::say_usage;
 pub use print::{PrintFault, StdPrint};
 pub use progress::Progress;
 pub use sink::ProgramSink;
-pub use source::{ProgramSource, program_source};
+pub use source::ProgramSource;
 pub use text::FileText;
 
 #[cfg(test)]

@@ -4,12 +4,10 @@ ghost use Rattle.std.specs.Prelude.{◌≡◌, ◌≤◌, true, None, IfOk, leng
 ghost use Rattle.corr_site.specs.Outside.{Rises};
 
 use crate::label::Label;
+use crate::limits::TRIES;
 use corr_site::{Failed, Got, Text, TextSink, TextSource};
 use std::io;
 use std::io::{ErrorKind, Read, Write};
-
-/// How often a read is tried that a signal interrupts.
-const TRIES: u32 = 1_000_000;
 
 /// A file that is open. It tells nothing of its bytes, and says to a person why it failed.
 #[derive(Drop)]

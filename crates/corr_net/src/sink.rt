@@ -5,6 +5,7 @@ ghost use Rattle.corr_site.specs.Outside.{HasCause};
 
 use crate::held::HeldFiles;
 use crate::label::{Label, Role};
+use crate::limits::STRING_LIMIT;
 use crate::progress::Progress;
 use crate::raw::{Opened, one_more};
 use capture_file::CaptureWriter;
@@ -15,9 +16,6 @@ use std::io::ErrorKind;
 use std::net::{Net, SocketAddr, ToSocketAddrs, UdpSocket};
 use std::rt::Files;
 use std::time::Clock;
-
-/// The greatest length of a byte string.
-const STRING_LIMIT: usize = 65535;
 
 /// What a sink writes to.
 #[derive(Drop)]

@@ -6,6 +6,7 @@ ghost use Rattle.corr_net.specs.Adapters.{FailsAgain};
 
 use crate::held::{Held, HeldFiles};
 use crate::label::{Label, Role};
+use crate::limits::{STRING_LIMIT, TRIES};
 use crate::print::PrintFault;
 use crate::raw::{Opened, one_more};
 use capture_file::{CaptureReader, CaptureRefusal, Captured, Room};
@@ -17,12 +18,6 @@ use std::io::ErrorKind;
 use std::net::{Net, UdpSocket};
 use std::rt::Files;
 use std::{fmt, fs};
-
-/// The greatest length of a byte string.
-const STRING_LIMIT: usize = 65535;
-
-/// How often a receive is tried that a signal interrupts.
-const TRIES: u32 = 1_000_000;
 
 /// What a source reads from.
 #[derive(Drop)]
@@ -56,20 +51,6 @@ pub struct ProgramSource<'a, R: Files + Eprint> {
     is_broken: bool,
     faults: u64,
     ghost has_room: { is_some input ≡ false → is_some room ≡ true },
-}
-
-/// The source of this number, not begun. It notes the file that it opens in `held`, and looks at
-/// `print`. `NoMemory` comes only for want of memory.
-pub fn program_source<'a, R: Files + Net + Eprint>(
-    alloc: Global,
-    system: &'a R,
-    held: &'a HeldFiles,
-    number: usize,
-    print: &'a PrintFault,
-) -> Result<ProgramSource<'a, R>, NoMemory>
-    ensures { IfOk result (λ s. is_some s.input ≡ false) }
-{
-    ProgramSource::new(alloc, system, held.input(number), print)
 }
 
 /// Why a capture file is refused, behind so many records.
@@ -115,19 +96,20 @@ fn receive(socket: &UdpSocket, buf: &mut [u8; 65536]) -> std::io::Result<usize>
 }
 
 impl<'a, R: Files + Net + Eprint> ProgramSource<'a, R> {
-    /// A source that is not begun. It notes the file that it opens in `held`, and looks at `print`.
-    /// `NoMemory` comes only for want of memory.
+    /// The source of this number, not begun. It notes the file that it opens in `held`, and looks at
+    /// `print`. `NoMemory` comes only for want of memory.
     pub fn new(
         alloc: Global,
         system: &'a R,
-        held: &'a Held,
+        held: &'a HeldFiles,
+        number: usize,
         print: &'a PrintFault,
     ) -> Result<Self, NoMemory>
         ensures { IfOk result (λ s. is_some s.input ≡ false) }
     {
         Ok(ProgramSource {
             system,
-            held,
+            held: held.input(number),
             print,
             input: None,
             room: Some(Room::new(alloc)?),

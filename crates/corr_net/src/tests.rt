@@ -71,7 +71,7 @@ fn a_capture_that_is_written_is_read_back(rt: HostRuntime) -> Result<(), Fail> {
         fs::read(&rt, "adapters.cap")?.as_slice(),
         CAPTURE.as_slice()
     );
-    let mut source = program_source(rt.alloc(), &rt, &held, 0, &fault)?;
+    let mut source = ProgramSource::new(rt.alloc(), &rt, &held, 0, &fault)?;
     begin(&mut source, &place)?;
     let mut buf = [7; 65536];
     assert_eq!(rt; next(&mut source, &mut buf), Next::Packet(3));
@@ -98,7 +98,7 @@ fn a_datagram_that_is_sent_arrives_whole(rt: HostRuntime) -> Result<(), Fail> {
     let place = Place { udp: true, text };
     let held = HeldFiles::new(rt.alloc())?;
     let fault = PrintFault::new();
-    let mut source = program_source(rt.alloc(), &rt, &held, 0, &fault)?;
+    let mut source = ProgramSource::new(rt.alloc(), &rt, &held, 0, &fault)?;
     begin(&mut source, &place)?;
     let mut sink = ProgramSink::new(&rt, &held, Progress::on(&rt.stderr()));
     sink.begin(&place)?;

@@ -7,7 +7,7 @@ use crate::seats::program_seats;
 use corr_cli::{no_memory, run};
 use corr_model::Unheard;
 use corr_net::{FileText, HeldFiles, PrintFault, ProgramSink, Progress, StdPrint, say_usage};
-use corr_site::NoGate;
+use corr_site::{NoGate, NoMemory};
 use std::env;
 use std::io::ErrorKind;
 use std::process::ExitCode;
@@ -18,24 +18,28 @@ const USAGE: u8 = 1;
 /// The status of settings that are refused.
 const REFUSED: u8 = 2;
 
+// The words of the command line. None where one is not UTF-8: that is a faulty line, which has no
+// form. `NoMemory` comes only for want of memory.
+fn words_of(rt: &HostRuntime) -> Result<Vec<String>, NoMemory> {
+    let mut words = Vec::new(rt.alloc());
+    match env::args(rt) {
+        Ok(args) => {
+            for word in args {
+                words.push(word)?;
+            }
+        }
+        Err(error) if error.kind() == ErrorKind::OutOfMemory => return Err(NoMemory),
+        Err(_) => {}
+    }
+    Ok(words)
+}
+
 fn main(rt: HostRuntime) -> ExitCode {
     let fault = PrintFault::new();
     let mut print = StdPrint::new(&rt, &fault);
-    let mut words = Vec::new(rt.alloc());
-    match env::args(&rt) {
-        Ok(args) => {
-            for word in args {
-                if words.push(word).is_err() {
-                    return ExitCode::from(no_memory(&mut print).code);
-                }
-            }
-        }
-        Err(error) if error.kind() == ErrorKind::OutOfMemory => {
-            return ExitCode::from(no_memory(&mut print).code);
-        }
-        // A word that is not UTF-8 is a faulty command line, which has no form.
-        Err(_) => {}
-    }
+    let Ok(words) = words_of(&rt) else {
+        return ExitCode::from(no_memory(&mut print).code);
+    };
     let Ok(held) = HeldFiles::new(rt.alloc()) else {
         return ExitCode::from(no_memory(&mut print).code);
     };

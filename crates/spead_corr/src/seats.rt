@@ -4,7 +4,7 @@ ghost use Rattle.std.specs.Prelude.{◌≡◌, false, IfOk, All, is_some};
 ghost use Rattle.std.specs.Vec.{vec_len};
 
 use corr_model::Unheard;
-use corr_net::{HeldFiles, PrintFault, ProgramSource, program_source};
+use corr_net::{HeldFiles, PrintFault, ProgramSource};
 use corr_site::NoMemory;
 use corr_threads::Seat;
 use std::alloc::Global;
@@ -31,7 +31,7 @@ pub fn program_seats<'a, R: Files + Net + Eprint>(
     // A seat has room for names and for its receiver, so none is moved by a vector that grows.
     let mut seats = Vec::with_capacity(alloc, SEATS)?;
     for number in 0..SEATS {
-        let source = program_source(alloc, system, held, number, print)?;
+        let source = ProgramSource::new(alloc, system, held, number, print)?;
         seats.push(Seat::new(source))?;
     }
     Ok(seats)
