@@ -6,8 +6,21 @@ program=$(readlink -f -- "${1:-"$top/spead_corr"}")
 folder=$(mktemp -d)
 trap 'rm -rf -- "$folder"' EXIT
 
-# Without words it prints its usage and changes nothing.
+# Without words it prints its usage and changes nothing. The wrapper looks at all sources before it starts, which is
+# not measured.
 "$program" >/dev/null 2>&1 || true
+if [ "$program" = "$top/spead_corr" ]; then
+    program=$top/crates/spead_corr/out/spead_corr
+fi
+
+# The bytes that a plan with so many workers reserves, as the formats write them out, and those of the payload of a
+# visibility heap. The plan's other fields are the variables of these names.
+reserved() {
+    local heap=$((4 * channels * spectra)) baselines=$((antennas * (antennas + 1) / 2)) works=$(($1 > 1 ? $1 : 1))
+    local limit=$((heap + 4096)) column=$((heaps * (heap + 1))) value=$((64 * channels * baselines + 4 * baselines))
+    local stream=$((window * (limit + (limit + 7) / 8) + (lag + 2) * column)) result=$((antennas * column + value))
+    echo $((antennas * stream + (slots + works) * result + value)) "$value"
+}
 
 # Writes the captures of all antennas, each by this name and its number: at each timestamp a heap of one packet, with
 # samples that differ from heap to heap and between antennas.

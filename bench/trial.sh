@@ -13,6 +13,7 @@ spectra=16
 heaps=16
 accumulations=4
 window=8
+lag=1
 slots=2
 
 # The settings of all antennas.
@@ -26,21 +27,13 @@ spectra = $spectra
 heaps = $heaps
 step = 8192
 accumulations = $accumulations
-lag = 1
+lag = $lag
 window = $window
 slots = $slots
 workers = 1
 inputs = [$(IFS=,; echo "${inputs[*]}")]
 output = "$folder/out.cap"
 SETTINGS
-}
-
-# The bytes that the plan reserves, as the formats write them out, and those of the payload of a visibility heap.
-reserved() {
-    local heap=$((4 * channels * spectra)) baselines=$((antennas * (antennas + 1) / 2))
-    local limit=$((heap + 4096)) column=$((heaps * (heap + 1))) value=$((64 * channels * baselines + 4 * baselines))
-    local map=$(((limit + 7) / 8))
-    echo $((antennas * (window * (limit + map) + 3 * column) + (slots + 1) * (antennas * column + value) + value)) "$value"
 }
 
 # Measures a trial with these flags, against at most so many bytes.
@@ -59,7 +52,7 @@ measure() {
 }
 
 write_settings
-read -r bytes value < <(reserved)
+read -r bytes value < <(reserved 1)
 most=$((bytes + bytes / 10 + value + 16777216))
 measure "$most" --serial
 measure "$most"
