@@ -16,9 +16,11 @@ pub has_form : (words : List (List ℕ)) → words ≡ literal_words → is_some
 has_form words same = subst (λ ws. is_some (form_of ws) ≡ true) (sym same) refl
 
 -- what stands in a sink to which nothing was sent before
-pub sent_all : (before strings now : List (List ℕ)) → before ≡ [] → Appended (Some before) strings (Some now) → now ≡ strings
+pub sent_all : (before strings now : List (List ℕ)) → before ≡ [] → Appended (Some before) strings (Some now)
+    → now ≡ strings
 sent_all before strings now none appended = cc
 
 -- the output, byte for byte, with any number of workers
-pub literal_output : (workers : ℕ) → output (literal_plan workers) literal_list ≡ head_bytes ∷ heap_bytes ∷ stop_bytes ∷ []
+pub literal_output : (workers : ℕ)
+    → output (literal_plan workers) literal_list ≡ head_bytes ∷ heap_bytes ∷ stop_bytes ∷ []
 literal_output workers = refl

@@ -15,13 +15,15 @@ give_push : {T : Type 0} (source : T → Source) (seats : List T) (x : T) → Ar
     → (a : ℕ) (d : T) → a < 2 → WillGive (source (get_or (seats ++ x ∷ []) a d)) (literal_list a)
 give_push source seats x h a d low =
     let two = h.two in
-    subst (λ s. WillGive (source s) (literal_list a)) (sym (get_or_append_left seats (x ∷ []) d a (omega (arith, two, low)))) (h.give a d low)
+    subst (λ s. WillGive (source s) (literal_list a))
+    (sym (get_or_append_left seats (x ∷ []) d a (omega (arith, two, low)))) (h.give a d low)
 
 all_push : {T : Type 0} (P : T → Type 0) (xs : List T) (x : T) → All P xs → P x → All P (xs ++ x ∷ [])
 all_push P xs x all is = grind (arith, common_steps)
 
 -- one more that is not begun
-pub are_new_push : {T : Type 0} (source : T → Source) (seats : List T) (x : T) → AreNew source seats → (source x).at ≡ None → AreNew source (seats ++ x ∷ [])
+pub are_new_push : {T : Type 0} (source : T → Source) (seats : List T) (x : T) → AreNew source seats
+    → (source x).at ≡ None → AreNew source (seats ++ x ∷ [])
 are_new_push source seats x h none = record {
   two = let two = h.two in omega (arith, two, length-append seats (x ∷ []));
   give = give_push source seats x h;

@@ -1,6 +1,6 @@
 //! One accumulation through the shared ring, on one thread, by a back end that counts timestamps.
 
-ghost use Rattle.std.specs.Prelude.{◌≡◌, ◌<◌, [], true, refl, IfOk};
+ghost use Rattle.std.specs.Prelude.{◌≡◌, ◌<◌, ◌^◌, [], true, refl, IfOk};
 ghost use Rattle.corr_model.specs.Plans.{Fits};
 
 use crate::Share;
@@ -156,6 +156,30 @@ fn work_on<R: Wait>(
     Ok(to.store(rt, work))
 }
 
+// What slot 1 answers to a take and to a send of this accumulation, and whether the take's work is free.
+fn asked<R: Wait>(
+    rt: &R,
+    alloc: Global,
+    plan: &Plan,
+    share: &Share<Unheard, Counting>,
+    number: u64,
+) -> Result<(Took, bool, Gave), AllocError>
+    requires fits { Fits plan.now }
+    requires in_range { 1 < plan.now.slots }
+    requires number { number < 2 ^ 32 }
+{
+    let mut work = Work::new(alloc, plan, &Counting)?;
+    let mut outgoing = Outgoing::new(alloc, plan, &Counting)?;
+    let took = share.take(rt, 1, &mut work);
+    let gave = share.send(rt, number, &mut outgoing);
+    Ok((took, work.is_free(), gave))
+}
+
+// Both are refused by a slot that shows this, and the work stays free.
+fn refused_by(held: Held) -> (Took, bool, Gave) {
+    (Took::Not(held), true, Gave::Not(held))
+}
+
 // The value may be used by several threads at once.
 fn may_be_shared<T: Send + Sync>(_value: &T) {}
 
@@ -224,6 +248,57 @@ fn each_kind_waits_for_its_own_changes(rt: HostRuntime) -> Result<(), Fail> {
 }
 
 #[test]
+fn a_slot_that_fills_shows_its_columns(rt: HostRuntime) -> Result<(), Fail> {
+    assert!(rt; PLAN.fits());
+    let alloc = rt.alloc();
+    let share = Share::new(Ring::new(alloc, &PLAN, &Counting)?);
+    for columns in 0..2 {
+        assert_eq!(rt;
+            asked(&rt, alloc, &PLAN, &share, 1)?,
+            refused_by(held(1, Kind::Filling, columns))
+        );
+        assert_eq!(rt;
+            share.put(&rt, &mut closed(alloc, &PLAN, columns, 1)?),
+            Put::Placed
+        );
+    }
+    Ok(())
+}
+
+#[test]
+fn a_slot_that_was_taken_shows_how_far_it_is(rt: HostRuntime) -> Result<(), Fail> {
+    assert!(rt; PLAN.fits());
+    let alloc = rt.alloc();
+    let share = Share::new(Ring::new(alloc, &PLAN, &Counting)?);
+    let mut work = Work::new(alloc, &PLAN, &Counting)?;
+    let mut outgoing = Outgoing::new(alloc, &PLAN, &Counting)?;
+    share.put(&rt, &mut closed(alloc, &PLAN, 0, 1)?);
+    share.put(&rt, &mut closed(alloc, &PLAN, 1, 1)?);
+    let took = share.take(&rt, 1, &mut work);
+    assert!(rt; matches!(took, Took::Taken));
+    let working = held(1, Kind::Working, 0);
+    assert_eq!(rt; asked(&rt, alloc, &PLAN, &share, 1)?, refused_by(working));
+    assert_eq!(rt;
+        share.put(&rt, &mut closed(alloc, &PLAN, 0, 1)?),
+        Put::Waits(working)
+    );
+    work.compute(&Counting);
+    assert_eq!(rt; share.store(&rt, &mut work), Stored::Stored);
+    let done = held(1, Kind::Done, 0);
+    assert_eq!(rt; asked(&rt, alloc, &PLAN, &share, 3)?, refused_by(done));
+    assert_eq!(rt;
+        share.put(&rt, &mut closed(alloc, &PLAN, 0, 3)?),
+        Put::Waits(done)
+    );
+    assert_eq!(rt; share.send(&rt, 1, &mut outgoing), Gave::Given);
+    assert_eq!(rt;
+        asked(&rt, alloc, &PLAN, &share, 3)?,
+        refused_by(held(3, Kind::Filling, 0))
+    );
+    Ok(())
+}
+
+#[test]
 fn a_value_that_no_slot_awaits_is_let_go(rt: HostRuntime) -> Result<(), Fail> {
     assert!(rt; PLAN.fits());
     let alloc = rt.alloc();
@@ -231,18 +306,22 @@ fn a_value_that_no_slot_awaits_is_let_go(rt: HostRuntime) -> Result<(), Fail> {
     let other = Share::new(Ring::new(alloc, &PLAN, &Counting)?);
     let mut work = Work::new(alloc, &PLAN, &Counting)?;
     assert_eq!(rt;
-        share.put(&rt, &mut closed(alloc, &PLAN, 0, 0)?),
+        share.put(&rt, &mut closed(alloc, &PLAN, 0, 1)?),
         Put::Placed
     );
     assert_eq!(rt;
-        share.put(&rt, &mut closed(alloc, &PLAN, 1, 0)?),
+        share.put(&rt, &mut closed(alloc, &PLAN, 1, 1)?),
         Put::Placed
     );
     assert_eq!(rt;
-        work_on(&rt, &share, &other, 0, &mut work),
-        Ok(Stored::Old(held(0, Kind::Filling, 0)))
+        other.put(&rt, &mut closed(alloc, &PLAN, 0, 1)?),
+        Put::Placed
+    );
+    assert_eq!(rt;
+        work_on(&rt, &share, &other, 1, &mut work),
+        Ok(Stored::Old(held(1, Kind::Filling, 1)))
     );
     assert!(rt; work.is_free());
-    assert_eq!(rt; other.pause(&rt, 1), 0);
+    assert_eq!(rt; other.pause(&rt, 0), 1);
     Ok(())
 }

@@ -125,3 +125,20 @@ fn workers_that_must_see_each_other(rt: HostRuntime) -> Result<(), Fail> {
     assert!(rt; workers_see_each_other(&rt, rt.alloc(), &plan, 1)?);
     Ok(())
 }
+
+#[test]
+fn without_workers_one_thread_works_and_sends(rt: HostRuntime) -> Result<(), Fail> {
+    let plan = plan_of(0);
+    assert!(rt; plan.fits());
+    let marks = Marks::new();
+    let worker = Actor {
+        kind: ActorKind::Work,
+        number: 0,
+    };
+    let never = unset();
+    let gate = Hold::new(&marks, worker, &marks.passed[4], &never);
+    assert!(rt; run_both(&rt, rt.alloc(), &plan, &marks, &gate)?);
+    assert!(rt; marks.are_passed(1));
+    assert!(rt; !gate.is_kept());
+    Ok(())
+}
