@@ -25,7 +25,14 @@ pieces_few k [] = omega arith
 pieces_few k (fate ∷ fates) =
     let rest = pieces_few (k + 1) fates in
     let few : times fate ≤ 2 = times_by (fate % 256 == 0) (fate % 256 == 1) in
-    omega (arith, rest, few, length-append (replicate (times fate) k) (pieces_from (k + 1) fates), length-replicate (times fate) k)
+    omega (
+      arith,
+      rest,
+      few,
+      length-append (replicate (times fate) k) (pieces_from (k + 1) fates),
+      length-replicate
+          (times fate) k,
+    )
 
 either_few : (b : Bool) (ms : List ℕ) (most : ℕ) → length ms ≤ most → length (if b then reverse ms else ms) ≤ most
 either_few true ms most h = omega (arith, h, length-reverse ms)
@@ -35,15 +42,23 @@ either_few false ms most h = h
 order_few : (seed n : ℕ) → length (order seed n) ≤ 2 * n
 order_few seed n =
     let fates = words (mix_u64 seed).1 n in
-    let few : length (pieces_from 0 fates) ≤ 2 * n = omega (arith, pieces_few 0 fates, length_words n (mix_u64 seed).1) in
-    subst (λ ms. length ms ≤ 2 * n) (sym (order_next seed n (mix_u64 seed).0 (mix_u64 seed).1 ((mix_u64 seed).0 % 8 == 0) refl refl))
+    let few : length (pieces_from 0 fates) ≤ 2 * n =
+    omega (arith, pieces_few 0 fates, length_words n (mix_u64 seed).1) in
+    subst (λ ms. length ms ≤ 2 * n)
+    (sym (order_next seed n (mix_u64 seed).0 (mix_u64 seed).1 ((mix_u64 seed).0 % 8 == 0) refl refl))
     (either_few ((mix_u64 seed).0 % 8 == 0) (pieces_from 0 fates) (2 * n) few)
 
 heap_few : (plan : Plan) (seed antenna heap : ℕ) → length (voltage_packets plan seed antenna heap) ≤ 2 * pieces plan
 heap_few plan seed antenna heap =
-    omega (arith, order_few (fate_key seed antenna heap) (pieces plan), length-map (order (fate_key seed antenna heap) (pieces plan)) (voltage_packet plan seed antenna heap))
+    omega (
+      arith,
+      order_few (fate_key seed antenna heap) (pieces plan),
+      length-map
+          (order (fate_key seed antenna heap) (pieces plan)) (voltage_packet plan seed antenna heap),
+    )
 
-all_few : (f : ℕ → List (List ℕ)) (most from n : ℕ) → ((place : ℕ) → length (f place) ≤ most) → length (flat_map f (numbers from n)) ≤ n * most
+all_few : (f : ℕ → List (List ℕ)) (most from n : ℕ) → ((place : ℕ) → length (f place) ≤ most)
+    → length (flat_map f (numbers from n)) ≤ n * most
 all_few f most from zero h = omega arith
 all_few f most from (suc n) h =
     let rest = all_few f most (from + 1) n h in
@@ -60,7 +75,8 @@ described_few : (plan : Plan) → 1 ≤ plan.packet → length (described_packet
 described_few plan some =
     let long : length (described_payload plan) ≡ 277 = refl in
     let count = piece_count plan.packet (length (described_payload plan)) in
-    let few : count ≤ 277 + plan.packet = subst (λ n. piece_count plan.packet n ≤ 277 + plan.packet) (sym long) (cut_few plan.packet 277 some) in
+    let few : count ≤ 277 + plan.packet =
+    subst (λ n. piece_count plan.packet n ≤ 277 + plan.packet) (sym long) (cut_few plan.packet 277 some) in
     let same : length (described_packets plan) ≡ count = length-map (numbers 0 count) _ ∙ length-numbers 0 count in
     omega (arith, same, few)
 
@@ -74,9 +90,11 @@ list_few plan seed antenna fits =
     let sent : ℕ → List (List ℕ) = λ place. voltage_packets plan seed antenna (heap_at seed antenna heaps place) in
     let first = described_few plan (omega (arith, some)) in
     let cut = cut_few plan.packet (sample_bytes plan) (omega (arith, some)) in
-    let most = all_few sent (2 * pieces plan) 0 heaps (λ place. heap_few plan seed antenna (heap_at seed antenna heaps place)) in
+    let most = all_few sent (2 * pieces plan) 0 heaps
+    (λ place. heap_few plan seed antenna (heap_at seed antenna heaps place)) in
     let each : 2 * pieces plan ≤ 2 * (1048576 + 8192) = omega (arith, cut, bytes, width) in
-    let all : heaps * (2 * pieces plan) ≤ 1048576 * 4096 * (2 * (1048576 + 8192)) = mul-le-mul (heaps_few plan fits) each in
+    let all : heaps * (2 * pieces plan) ≤ 1048576 * 4096 * (2 * (1048576 + 8192)) =
+    mul-le-mul (heaps_few plan fits) each in
     omega (
       arith,
       first,

@@ -38,7 +38,8 @@ impl Model for Cursor {
       numbers = drop s.at (take s.count s.order.items);
     } };
 
-    ghost invariant = { λ s. IsSpot s.plan s.seed s.antenna s.block s.order.items s.count s.at s.samples.items s.sky.items };
+    ghost invariant = { λ s.
+        IsSpot s.plan s.seed s.antenna s.block s.order.items s.count s.at s.samples.items s.sky.items };
 }
 
 impl Cursor {

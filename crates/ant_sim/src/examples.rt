@@ -19,7 +19,8 @@ pub fn halves_of_bytes()
 
 /// The generator's words, and a seed that wraps.
 pub fn words_of_a_seed()
-    ensures words { words 1477776061723855037 3 ≡ 1985237415132408290 ∷ 2979275885539914483 ∷ 13511426838097143398 ∷ [] }
+    ensures words { words 1477776061723855037 3
+        ≡ 1985237415132408290 ∷ 2979275885539914483 ∷ 13511426838097143398 ∷ [] }
     ensures key { key (2 ^ 64 - 1) 1 2 ≡ 8589934595 }
     ensures fate_key { fate_key (2 ^ 64 - 1) 0 0 ≡ 0 }
 {}

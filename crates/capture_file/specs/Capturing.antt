@@ -145,13 +145,18 @@ FoundFits found.End = Unit {0}
 FoundFits (found.Refused cause) = Unit {0}
 
 -- a stage of the reader, where a read that did not fail comes to it from another: by what was to come, and by what is
-abbrev pub Advances : {E : Type 0} → Stage → Option (List ℕ) → Stage → Option (List ℕ) → List ℕ → Result Found E → Type 0
-Advances before left after now buf (Ok (found.Record n)) = (after ≡ stage.Body) × Gives (coming_at before left) (coming_at after now) buf (captured.Packet n)
-Advances before left after now buf (Ok found.End) = (after ≡ stage.Body) × Gives (coming_at before left) (coming_at after now) buf captured.End
-Advances before left after now buf (Ok (found.Refused cause)) = Gives (coming_at before left) (coming_at (stage.Refused cause) now) buf (captured.Refused cause)
+abbrev pub Advances : {E : Type 0} → Stage → Option (List ℕ) → Stage → Option (List ℕ) → List ℕ
+    → Result Found E → Type 0
+Advances before left after now buf (Ok (found.Record n)) =
+    (after ≡ stage.Body) × Gives (coming_at before left) (coming_at after now) buf (captured.Packet n)
+Advances before left after now buf (Ok found.End) =
+    (after ≡ stage.Body) × Gives (coming_at before left) (coming_at after now) buf captured.End
+Advances before left after now buf (Ok (found.Refused cause)) =
+    Gives (coming_at before left) (coming_at (stage.Refused cause) now) buf (captured.Refused cause)
 Advances before left after now buf (Err e) = Unit {0}
 
--- a writer of a capture file: what its sink was given, where that is told, whether a write failed, and the sink's faults
+-- a writer of a capture file: what its sink was given, where that
+-- is told, whether a write failed, and the sink's faults
 pub record Capturing : Type 0 where
   pub written : Option (List ℕ)
   pub broken : Bool

@@ -14,11 +14,14 @@ use Rattle.corr_model.proofs.OutputPackets.{length-packets_of}
 
 -- the packets of the descriptor heap, of all visibility heaps, and of the stop heap
 packet_count : Plan → ℕ
-packet_count plan = piece_count plan.packet 288 + (plan.accumulations * piece_count plan.packet (visibility_bytes plan) + piece_count plan.packet 0)
+packet_count plan = piece_count plan.packet 288
+    + (plan.accumulations * piece_count plan.packet (visibility_bytes plan) + piece_count plan.packet 0)
 
-length-heap_packets : (plan : Plan) (lists : Lists) (n : ℕ) → length (heap_packets plan lists n) ≡ piece_count plan.packet (visibility_bytes plan)
+length-heap_packets : (plan : Plan) (lists : Lists) (n : ℕ)
+    → length (heap_packets plan lists n) ≡ piece_count plan.packet (visibility_bytes plan)
 length-heap_packets plan lists n =
-    length-packets_of plan (n + 2) (visibility_pointers plan n) (value_payload plan lists n ++ missing_payload plan lists n)
+    length-packets_of plan (n + 2) (visibility_pointers plan n)
+    (value_payload plan lists n ++ missing_payload plan lists n)
     ∙ ap (piece_count plan.packet) (heap_payload_length plan lists n)
 
 -- the output has as many packets, whatever the lists
@@ -30,10 +33,13 @@ length-output plan lists =
     let head = length-packets_of plan 1 (addressed 5 0 ∷ addressed 5 84 ∷ addressed 5 199 ∷ []) (head_payload plan) in
     let stop = length-packets_of plan (plan.accumulations + 2) (immediate 6 2 ∷ []) [] in
     let even : length heaps ≡ plan.accumulations * each
-    = length-flat_map_even (heap_packets plan lists) each (length-heap_packets plan lists) (numbers 0 plan.accumulations) ∙ ap (λ k. k * each) (length-numbers 0 plan.accumulations) in
+    = length-flat_map_even (heap_packets plan lists) each (length-heap_packets plan lists)
+    (numbers 0 plan.accumulations) ∙ ap (λ k. k * each) (length-numbers 0 plan.accumulations) in
     length-append (head_packets plan) (heaps ++ stop_packets plan)
     ∙ (ap (λ k. k + length (heaps ++ stop_packets plan)) head
-    ∙ ap (λ k. piece_count plan.packet 288 + k) (length-append heaps (stop_packets plan) ∙ (ap (λ k. k + length (stop_packets plan)) even ∙ ap (λ k. plan.accumulations * each + k) stop)))
+    ∙ ap (λ k. piece_count plan.packet 288 + k)
+    (length-append heaps (stop_packets plan) ∙
+    (ap (λ k. k + length (stop_packets plan)) even ∙ ap (λ k. plan.accumulations * each + k) stop)))
 
 pub same_count : (plan : Plan) (lists others : Lists) → length (output plan lists) ≡ length (output plan others)
 same_count plan lists others = length-output plan lists ∙ sym (length-output plan others)
@@ -52,5 +58,7 @@ few_packets plan lists fits =
     let each = few_pieces plan.packet (visibility_bytes plan) (omega arith) in
     let head = few_pieces plan.packet 288 (omega arith) in
     let stop = few_pieces plan.packet 0 (omega arith) in
-    let product : plan.accumulations * piece_count plan.packet (visibility_bytes plan) ≤ 2 ^ 20 * 2 ^ 31 = mul-le plan.accumulations (piece_count plan.packet (visibility_bytes plan)) (2 ^ 20) (2 ^ 31) (omega arith) (omega arith) in
+    let product : plan.accumulations * piece_count plan.packet (visibility_bytes plan) ≤ 2 ^ 20 * 2 ^ 31 =
+    mul-le plan.accumulations (piece_count plan.packet (visibility_bytes plan)) (2 ^ 20) (2 ^ 31) (omega arith)
+    (omega arith) in
     omega (arith, length-output plan lists, head, stop, product)

@@ -32,20 +32,25 @@ trial_operands serial (config ∷ seed ∷ []) = mapped_trial _ (λ n. tt) (numb
 trial_operands serial (config ∷ seed ∷ x ∷ xs) = tt
 
 trial_sound : (serial : Bool) (operands : List (List ℕ)) → AreTrials (sound_form (codes "trial") serial operands)
-trial_sound serial operands = either_trial (list_all is_operand operands) (trial_form serial operands) None (trial_operands serial operands) tt
+trial_sound serial operands =
+    either_trial (list_all is_operand operands) (trial_form serial operands) None (trial_operands serial operands) tt
 
 trial_rest : (rest : List (List ℕ)) → AreTrials (rest_form (codes "trial") rest)
 trial_rest rest =
-    either_trial (nat_le (length (filter is_flag rest)) 1) (sound_form (codes "trial") (list_any is_flag rest) (filter (λ word. not (is_flag word)) rest)) (sound_form (codes "trial") false rest)
+    either_trial (nat_le (length (filter is_flag rest)) 1)
+    (sound_form (codes "trial") (list_any is_flag rest) (filter (λ word. not (is_flag word)) rest))
+    (sound_form (codes "trial") false rest)
     (trial_sound (list_any is_flag rest) (filter (λ word. not (is_flag word)) rest)) (trial_sound false rest)
 
 words_trial : (words : List (List ℕ)) → bytes_eq (word_at words 1) (codes "trial") ≡ true → AreTrials (form words)
 words_trial words is =
     either_trial (nat_le 2 (length words)) (rest_form (word_at words 1) (drop 2 words)) None
-    (subst (λ k. AreTrials (rest_form k (drop 2 words))) (sym (same_bytes (word_at words 1) (codes "trial") is)) (trial_rest (drop 2 words))) tt
+    (subst (λ k. AreTrials (rest_form k (drop 2 words))) (sym (same_bytes (word_at words 1) (codes "trial") is))
+    (trial_rest (drop 2 words))) tt
 
 -- the command of words that name it is `trial`
-pub is_trial : (words : List (List ℕ)) (c : Command) → bytes_eq (word_at words 1) (codes "trial") ≡ true → form words ≡ Some c → IsTrial c
+pub is_trial : (words : List (List ℕ)) (c : Command) → bytes_eq (word_at words 1) (codes "trial") ≡ true
+    → form words ≡ Some c → IsTrial c
 is_trial words c is e = subst AreTrials e (words_trial words is)
 
 -- where there is a command, it is one over simulated inputs
@@ -57,11 +62,13 @@ either_simulator : (b : Bool) (x y : Option Command) → AreSimulators x → Are
 either_simulator true x y h k = h
 either_simulator false x y h k = k
 
-mapped_simulator : {A : Type 0} (g : A → Command) → ((a : A) → IsOfSimulated (g a)) → (o : Option A) → AreSimulators (option_map g o)
+mapped_simulator : {A : Type 0} (g : A → Command) → ((a : A) → IsOfSimulated (g a)) → (o : Option A)
+    → AreSimulators (option_map g o)
 mapped_simulator g h None = tt
 mapped_simulator g h (Some a) = h a
 
-chained_simulator : {A B : Type 0} (g : A → B → Command) → ((a : A) (b : B) → IsOfSimulated (g a b)) → (o : Option A) (p : Option B) → AreSimulators (option_and_then (λ a. option_map (g a) p) o)
+chained_simulator : {A B : Type 0} (g : A → B → Command) → ((a : A) (b : B) → IsOfSimulated (g a b))
+    → (o : Option A) (p : Option B) → AreSimulators (option_and_then (λ a. option_map (g a) p) o)
 chained_simulator g h None p = tt
 chained_simulator g h (Some a) p = mapped_simulator (g a) (h a) p
 
@@ -86,17 +93,25 @@ trial_simulates (Some (Decode from limit)) h = absurd h
 simulate_rest : (rest : List (List ℕ)) → AreSimulators (rest_form (codes "simulate") rest)
 simulate_rest rest = either_simulator (list_all is_operand rest) (simulate_form rest) None (simulate_simulator rest) tt
 
-rest_simulator : (command : List ℕ) (rest : List (List ℕ)) → (bytes_eq command (codes "trial") || bytes_eq command (codes "simulate")) ≡ true → AreSimulators (rest_form command rest)
-rest_simulator command rest h = elim (or_true (bytes_eq command (codes "trial")) (bytes_eq command (codes "simulate")) h) [
-  | inl is ↦ subst (λ k. AreSimulators (rest_form k rest)) (sym (same_bytes command (codes "trial") is)) (trial_simulates (rest_form (codes "trial") rest) (trial_rest rest))
-  | inr is ↦ subst (λ k. AreSimulators (rest_form k rest)) (sym (same_bytes command (codes "simulate") is)) (simulate_rest rest)
-]
+rest_simulator : (command : List ℕ) (rest : List (List ℕ))
+    → (bytes_eq command (codes "trial") || bytes_eq command (codes "simulate")) ≡ true
+    → AreSimulators (rest_form command rest)
+rest_simulator command rest h =
+    elim (or_true (bytes_eq command (codes "trial")) (bytes_eq command (codes "simulate")) h) [
+      | inl is ↦ subst (λ k. AreSimulators (rest_form k rest)) (sym (same_bytes command (codes "trial") is))
+          (trial_simulates (rest_form (codes "trial") rest) (trial_rest rest))
+      | inr is ↦ subst (λ k. AreSimulators (rest_form k rest)) (sym (same_bytes command (codes "simulate") is))
+          (simulate_rest rest)
+    ]
 
 words_simulator : (words : List (List ℕ)) → names_simulated words ≡ true → AreSimulators (form words)
-words_simulator words h = either_simulator (nat_le 2 (length words)) (rest_form (word_at words 1) (drop 2 words)) None (rest_simulator (word_at words 1) (drop 2 words) h) tt
+words_simulator words h =
+    either_simulator (nat_le 2 (length words)) (rest_form (word_at words 1) (drop 2 words)) None
+    (rest_simulator (word_at words 1) (drop 2 words) h) tt
 
 -- the command of words that name one over simulated inputs is such a one
-pub is_of_simulated : (words : List (List ℕ)) (c : Command) → names_simulated words ≡ true → form words ≡ Some c → IsOfSimulated c
+pub is_of_simulated : (words : List (List ℕ)) (c : Command) → names_simulated words ≡ true → form words ≡ Some c
+    → IsOfSimulated c
 is_of_simulated words c h e = subst AreSimulators e (words_simulator words h)
 
 -- words over simulated inputs ask for nothing that correlates the sources
@@ -113,7 +128,8 @@ or_none false b h = (refl, h)
 or_none true b h = absurd cc
 
 -- what is left of a chain of commands of which none from the third on is named
-chain_over : (p c t s r i d : Bool) (x y u v w a b : Option Command) → AllOverSources x → AllOverSources y → t ≡ false → s ≡ false → r ≡ false → i ≡ false → d ≡ false
+chain_over : (p c t s r i d : Bool) (x y u v w a b : Option Command) → AllOverSources x → AllOverSources y → t ≡ false
+    → s ≡ false → r ≡ false → i ≡ false → d ≡ false
     → AllOverSources (cond p x (cond c y (cond t u (cond s v (cond r w (cond i a (cond d b None)))))))
 chain_over true c t s r i d x y u v w a b h k et es er ei ed = h
 chain_over false true t s r i d x y u v w a b h k et es er ei ed = k
@@ -127,25 +143,35 @@ pub record IsOther (command : List ℕ) : Type 0 where
   pub inspect : bytes_eq command (codes "inspect") ≡ false
   pub decode : bytes_eq command (codes "decode") ≡ false
 
-command_over : (command : List ℕ) (serial : Bool) (operands : List (List ℕ)) → IsOther command → AllOverSources (command_form command serial operands)
+command_over : (command : List ℕ) (serial : Bool) (operands : List (List ℕ)) → IsOther command
+    → AllOverSources (command_form command serial operands)
 command_over command serial operands o =
-    chain_over (bytes_eq command (codes "plain")) (bytes_eq command (codes "correlate")) (bytes_eq command (codes "trial")) (bytes_eq command (codes "simulate"))
-    (bytes_eq command (codes "relay")) (bytes_eq command (codes "inspect")) (bytes_eq command (codes "decode")) _ _ _ _ _ _ _
+    chain_over (bytes_eq command (codes "plain")) (bytes_eq command (codes "correlate"))
+    (bytes_eq command (codes "trial")) (bytes_eq command (codes "simulate"))
+    (bytes_eq command (codes "relay")) (bytes_eq command (codes "inspect"))
+    (bytes_eq command (codes "decode")) _ _ _ _ _ _ _
     (plain_over operands) (correlate_over serial operands) o.trial o.simulate o.relay o.inspect o.decode
 
-sound_over : (command : List ℕ) (serial : Bool) (operands : List (List ℕ)) → IsOther command → AllOverSources (sound_form command serial operands)
-sound_over command serial operands o = either_over (list_all is_operand operands) (command_form command serial operands) None (command_over command serial operands o) none_over
+sound_over : (command : List ℕ) (serial : Bool) (operands : List (List ℕ)) → IsOther command
+    → AllOverSources (sound_form command serial operands)
+sound_over command serial operands o =
+    either_over (list_all is_operand operands) (command_form command serial operands) None
+    (command_over command serial operands o) none_over
 
 other_over : (command : List ℕ) (rest : List (List ℕ)) → IsOther command → AllOverSources (rest_form command rest)
 other_over command rest o =
-    either_over _ (sound_form command (list_any is_flag rest) (filter (λ word. not (is_flag word)) rest)) (sound_form command false rest)
-    (sound_over command (list_any is_flag rest) (filter (λ word. not (is_flag word)) rest) o) (sound_over command false rest o)
+    either_over _ (sound_form command (list_any is_flag rest) (filter (λ word. not (is_flag word)) rest))
+    (sound_form command false rest)
+    (sound_over command (list_any is_flag rest) (filter (λ word. not (is_flag word)) rest) o)
+    (sound_over command false rest o)
 
-words_other : (words : List (List ℕ)) → names_tool words ≡ false → names_simulated words ≡ false → IsOther (word_at words 1)
+words_other : (words : List (List ℕ)) → names_tool words ≡ false → names_simulated words ≡ false
+    → IsOther (word_at words 1)
 words_other words tool simulator =
     let word = word_at words 1 in
     let both = or_none (bytes_eq word (codes "trial")) (bytes_eq word (codes "simulate")) simulator in
-    let first = or_none (bytes_eq word (codes "relay")) (bytes_eq word (codes "inspect") || bytes_eq word (codes "decode")) tool in
+    let first = or_none (bytes_eq word (codes "relay"))
+    (bytes_eq word (codes "inspect") || bytes_eq word (codes "decode")) tool in
     let later = or_none (bytes_eq word (codes "inspect")) (bytes_eq word (codes "decode")) first.1 in
     record { trial = both.0; simulate = both.1; relay = first.0; inspect = later.0; decode = later.1 }
 
@@ -155,13 +181,16 @@ all_same None h = refl
 all_same (Some c) h = ap (λ b. cond b (Some c) None) (h c refl)
 
 -- of other words each form is one that correlates the sources
-pub same_form : (words : List (List ℕ)) → names_tool words ≡ false → names_simulated words ≡ false → form_of words ≡ form words
+pub same_form : (words : List (List ℕ)) → names_tool words ≡ false → names_simulated words ≡ false
+    → form_of words ≡ form words
 same_form words tool simulator =
     all_same (form words)
-    (either_over (nat_le 2 (length words)) (rest_form (word_at words 1) (drop 2 words)) None (other_over (word_at words 1) (drop 2 words) (words_other words tool simulator)) none_over)
+    (either_over (nat_le 2 (length words)) (rest_form (word_at words 1) (drop 2 words)) None
+    (other_over (word_at words 1) (drop 2 words) (words_other words tool simulator)) none_over)
 
 -- the usage of words that name no tool and no simulated inputs
-pub other_usage : (words : List (List ℕ)) (code : ℕ) → names_tool words ≡ false → names_simulated words ≡ false → (code ≡ 1) ↔ IsNone (form_of words) → (code ≡ 1) ↔ IsNone (form words)
+pub other_usage : (words : List (List ℕ)) (code : ℕ) → names_tool words ≡ false → names_simulated words ≡ false
+    → (code ≡ 1) ↔ IsNone (form_of words) → (code ≡ 1) ↔ IsNone (form words)
 other_usage words code tool simulator h = subst (λ k. (code ≡ 1) ↔ IsNone k) (same_form words tool simulator) h
 
 -- words that read no settings over anything read none for a run over the sources
@@ -179,7 +208,8 @@ reads_none words h = by (form words) refl h
     by (Some (Decode from limit)) e h = rw e refl
 
 -- words over simulated inputs that read no settings have no form
-pub unread_words : (words : List (List ℕ)) → names_simulated words ≡ true → reads_settings words ≡ false → form words ≡ None
+pub unread_words : (words : List (List ℕ)) → names_simulated words ≡ true → reads_settings words ≡ false
+    → form words ≡ None
 unread_words words named h = by (form words) refl
   where
     by : (o : Option Command) → form words ≡ o → form words ≡ None

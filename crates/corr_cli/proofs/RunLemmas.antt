@@ -25,7 +25,8 @@ some_of [] h = absurd (omega arith)
 some_of (x ∷ xs) h = x
 
 -- so many packets were counted, where they fit the count
-packets_of : (sent : Sent) (strings : List (List ℕ)) → sent.packets + length strings ≤ 2 ^ 64 - 1 → (more sent strings).packets ≡ sent.packets + length strings
+packets_of : (sent : Sent) (strings : List (List ℕ)) → sent.packets + length strings ≤ 2 ^ 64 - 1
+    → (more sent strings).packets ≡ sent.packets + length strings
 packets_of sent [] h = omega arith
 packets_of sent (s ∷ strings) h =
     let one : counted sent.packets 1 ≡ sent.packets + 1 = omega arith in
@@ -33,18 +34,22 @@ packets_of sent (s ∷ strings) h =
     omega (arith, rest, one)
 
 -- the number of packets that were counted of an output is that of any output of the plan
-counted_output : (plan : Plan) (sent : Sent) (given lists : Lists) → Fits plan → sent ≡ more nothing (output plan given) → sent.packets ≡ length (output plan lists)
+counted_output : (plan : Plan) (sent : Sent) (given lists : Lists) → Fits plan → sent ≡ more nothing (output plan given)
+    → sent.packets ≡ length (output plan lists)
 counted_output plan sent given lists fits is =
     let few = few_packets plan given fits in
-    let count : (more nothing (output plan given)).packets ≡ 0 + length (output plan given) = packets_of nothing (output plan given) (omega (arith, few)) in
+    let count : (more nothing (output plan given)).packets ≡ 0 + length (output plan given) =
+    packets_of nothing (output plan given) (omega (arith, few)) in
     let packets : sent.packets ≡ (more nothing (output plan given)).packets = ap (λ (s : Sent). s.packets) is in
     let same = same_count plan given lists in
     omega (arith, packets, count, same)
 
-module _ {S : Type 0} (plan : Plan) (seen : Seen S) (sent : Sent) (fits : Fits plan) (sources : AreBegun seen.begun plan.antennas seen.now) (sink : seen.sink_begun ≡ true) where
+module _ {S : Type 0} (plan : Plan) (seen : Seen S) (sent : Sent) (fits : Fits plan)
+    (sources : AreBegun seen.begun plan.antennas seen.now) (sink : seen.sink_begun ≡ true) where
   -- all was sent
   all_sent : (ran : Ran) (fault : Option ℕ) → IsWhole ran
-      → ((lists : List (List (List ℕ))) → AreGiven plan seen.gives seen.given seen.old lists → SendsWhole seen.sent_before seen.sent nothing sent (output plan (list_of lists)))
+      → ((lists : List (List (List ℕ))) → AreGiven plan seen.gives seen.given seen.old lists
+      → SendsWhole seen.sent_before seen.sent nothing sent (output plan (list_of lists)))
       → (seen.knows ≡ true → SendsOutput plan seen.sent_before seen.sent sent)
       → GaveTaken plan seen.gives seen.given seen.old seen.now
       → HasLeastRise seen.faults plan.antennas seen.old seen.now fault → seen.sink_faults ≡ seen.sink_faults_before
@@ -59,42 +64,73 @@ module _ {S : Type 0} (plan : Plan) (seen : Seen S) (sent : Sent) (fits : Fits p
   }
 
   summed : (reports : List StreamReport)
-      → ((lists : List (List (List ℕ))) → AreGiven plan seen.gives seen.given seen.old lists → SendsWhole seen.sent_before seen.sent nothing sent (output plan (list_of lists)))
-      → AreReports plan seen.gives seen.given seen.faults seen.old seen.now reports → AreWholeReports plan seen.gives seen.given seen.old reports → IsSummed plan seen sent reports
-  summed reports sends are whole = record { counted = λ lists is. (sends lists is).counted; reports_are = are; whole = whole }
+      → ((lists : List (List (List ℕ))) → AreGiven plan seen.gives seen.given seen.old lists
+      → SendsWhole seen.sent_before seen.sent nothing sent (output plan (list_of lists)))
+      → AreReports plan seen.gives seen.given seen.faults seen.old seen.now reports
+      → AreWholeReports plan seen.gives seen.given seen.old reports → IsSummed plan seen sent reports
+  summed reports sends are whole =
+      record { counted = λ lists is. (sends lists is).counted; reports_are = are; whole = whole }
 
   pub comes_by : (telling : Telling) (ran : Ran) (reports : List StreamReport)
-      → ((lists : List (List (List ℕ))) → AreGiven plan seen.gives seen.given seen.old lists → SendsBy ran seen.sent_before seen.sent sent (output plan (list_of lists)))
+      → ((lists : List (List (List ℕ))) → AreGiven plan seen.gives seen.given seen.old lists
+      → SendsBy ran seen.sent_before seen.sent sent (output plan (list_of lists)))
       → (seen.knows ≡ true → IsWhole ran → SendsOutput plan seen.sent_before seen.sent sent)
       → (IsWhole ran → GaveTaken plan seen.gives seen.given seen.old seen.now)
       → AreReports plan seen.gives seen.given seen.faults seen.old seen.now reports
       → (IsWhole ran → AreWholeReports plan seen.gives seen.given seen.old reports)
       → RanHasCause seen.faults plan.antennas seen.old seen.now seen.sink_faults_before seen.sink_faults ran
       → RunsPlan telling plan seen (answer_of telling ran sent reports)
-  comes_by Packets Done reports sends some taken are whole cause = (refl, all_sent Done None tt sends (λ known. some known tt) (taken tt) cause.0 cause.1)
-  comes_by Summary Done reports sends some taken are whole cause = (refl, all_sent Done None tt sends (λ known. some known tt) (taken tt) cause.0 cause.1, summed reports sends are (whole tt))
-  comes_by Packets (SourceFault a) reports sends some taken are whole cause = (refl, all_sent (SourceFault a) (Some a) tt sends (λ known. some known tt) (taken tt) cause.0 cause.1)
-  comes_by Summary (SourceFault a) reports sends some taken are whole cause = (refl, all_sent (SourceFault a) (Some a) tt sends (λ known. some known tt) (taken tt) cause.0 cause.1, summed reports sends are (whole tt))
+  comes_by Packets Done reports sends some taken are whole cause =
+      (refl, all_sent Done None tt sends (λ known. some known tt) (taken tt) cause.0 cause.1)
+  comes_by Summary Done reports sends some taken are whole cause = (
+    refl,
+    all_sent Done None tt sends (λ known. some known tt) (taken tt) cause.0 cause.1,
+    summed reports sends
+        are (whole tt),
+  )
+  comes_by Packets (SourceFault a) reports sends some taken are whole cause =
+      (refl, all_sent (SourceFault a) (Some a) tt sends (λ known. some known tt) (taken tt) cause.0 cause.1)
+  comes_by Summary (SourceFault a) reports sends some taken are whole cause = (
+    refl,
+    all_sent (SourceFault a) (Some a) tt sends (λ known. some known tt) (taken tt) cause.0 cause.1,
+    summed
+        reports sends are (whole tt),
+  )
   comes_by telling SinkFault reports sends some taken are whole cause = record {
     sources = sources;
-    output = λ lists is. let front = sends lists is in record { front = front.front; rest = front.rest; whole = front.whole; appends = front.appended };
+    output = λ lists is. let front =
+        sends lists is in record {
+          front = front.front;
+          rest = front.rest;
+          whole = front.whole;
+          appends = front.appended;
+        };
     sink_rose = cause.1;
   }
 
 -- the answer of a run can be printed
-pub printable_by : {S : Type 0} (plan : Plan) (gives : S → Option (List (List ℕ))) (given faults : S → ℕ) (old now : List S) (telling : Telling) (ran : Ran) (sent : Sent) (reports : List StreamReport) → Fits plan
-    → AreReports plan gives given faults old now reports → (IsWhole ran → AreWholeReports plan gives given old reports) → IsPrintable (answer_of telling ran sent reports)
+pub printable_by : {S : Type 0} (plan : Plan) (gives : S → Option (List (List ℕ))) (given faults : S → ℕ)
+    (old now : List S) (telling : Telling) (ran : Ran) (sent : Sent) (reports : List StreamReport) → Fits plan
+    → AreReports plan gives given faults old now reports → (IsWhole ran → AreWholeReports plan gives given old reports)
+    → IsPrintable (answer_of telling ran sent reports)
 printable_by plan gives given faults old now Packets Done sent reports fits are whole = tt
 printable_by plan gives given faults old now Packets (SourceFault a) sent reports fits are whole = tt
 printable_by plan gives given faults old now telling SinkFault sent reports fits are whole = tt
 printable_by plan gives given faults old now Summary Done sent reports fits are whole =
     let most = fits.ranges.shape.antennas.most_met in
-    record { few = omega (arith, are.as_many, most); each = λ a r within. (whole tt).over a r (omega (arith, within, are.as_many)) }
+    record {
+      few = omega (arith, are.as_many, most);
+      each = λ a r within. (whole tt).over a r (omega (arith, within, are.as_many));
+    }
 printable_by plan gives given faults old now Summary (SourceFault a) sent reports fits are whole =
     let most = fits.ranges.shape.antennas.most_met in
-    record { few = omega (arith, are.as_many, most); each = λ a r within. (whole tt).over a r (omega (arith, within, are.as_many)) }
+    record {
+      few = omega (arith, are.as_many, most);
+      each = λ a r within. (whole tt).over a r (omega (arith, within, are.as_many));
+    }
 
-pub over_by : (telling : Telling) (ran : Ran) (sent : Sent) (reports : List StreamReport) → IsOverBegun (answer_of telling ran sent reports)
+pub over_by : (telling : Telling) (ran : Ran) (sent : Sent) (reports : List StreamReport)
+    → IsOverBegun (answer_of telling ran sent reports)
 over_by Packets Done sent reports = tt
 over_by Summary Done sent reports = tt
 over_by Packets (SourceFault a) sent reports = tt

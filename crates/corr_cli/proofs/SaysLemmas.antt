@@ -18,8 +18,10 @@ use Rattle.corr_cli.specs.Said.{if_over_sources, of_plain}
 use Rattle.corr_cli.specs.Says.{IsOfNumbers, IsOfText, IsSaidBy, Says, SaysCause, SaysText}
 
 -- the front of a text that fills the buffer says what the whole text says
-pub text_says : (E : Type 0) (told now : Option (List ℕ)) (buf : List ℕ) (n : ℕ) (telling : Telling) (r : Result Asked Answer) → n ≤ length buf → length buf ≡ 65537 → Fills {E = E} told now buf (Ok n)
-    → SaysText (settings (take n buf)) telling r → (bytes : List ℕ) → told ≡ Some bytes → SaysText (settings bytes) telling r
+pub text_says : (E : Type 0) (told now : Option (List ℕ)) (buf : List ℕ) (n : ℕ) (telling : Telling)
+    (r : Result Asked Answer) → n ≤ length buf → length buf ≡ 65537 → Fills {E = E} told now buf (Ok n)
+    → SaysText (settings (take n buf)) telling r → (bytes : List ℕ) → told ≡ Some bytes
+    → SaysText (settings bytes) telling r
 text_says E None now buf n telling r within long h says bytes e = absurd cc
 text_says E (Some left) now buf n telling r within long h says bytes e =
     let same : left ≡ bytes = cc in
@@ -27,12 +29,14 @@ text_says E (Some left) now buf n telling r within long h says bytes e =
     subst (λ s. SaysText s telling r) (ap settings held ∙ (settings_cut left ∙ ap settings same)) says
 
 -- the words are those of `plain`
-pub plain_says : (words : List (List ℕ)) (text : Option (List ℕ)) (p : PlainWords) (r : Result Asked Answer) → form words ≡ Some (Plain p) → SaysText (of_plain p) Packets r → IfErr r IsOfNumbers → Says words text r
+pub plain_says : (words : List (List ℕ)) (text : Option (List ℕ)) (p : PlainWords) (r : Result Asked Answer)
+    → form words ≡ Some (Plain p) → SaysText (of_plain p) Packets r → IfErr r IsOfNumbers → Says words text r
 plain_says words text p (Ok asked) is h of = record {
   said = record { command = Plain p; is_form = ap (option_and_then if_over_sources) is; says = h.0 };
   tells = sym h.1;
 }
-plain_says words text p (Err (answers.Settings refusal)) is h of = record { command = Plain p; is_form = ap (option_and_then if_over_sources) is; says = h }
+plain_says words text p (Err (answers.Settings refusal)) is h of =
+    record { command = Plain p; is_form = ap (option_and_then if_over_sources) is; says = h }
 plain_says words text p (Err answers.Usage) is h of = absurd of
 plain_says words text p (Err answers.SettingsFault) is h of = absurd of
 plain_says words text p (Err answers.NoMemory) is h of = absurd of
@@ -54,25 +58,44 @@ plain_cause faults (Err (answers.Sent packets fault)) of = absurd of
 plain_cause faults (Err (answers.Summed sent reports fault)) of = absurd of
 plain_cause faults (Err (answers.Simulated packets)) of = absurd of
 
-said_ok : (config : List ℕ) (serial : Bool) (text : Option (List ℕ)) (asked : Asked) → ((bytes : List ℕ) → text ≡ Some bytes → SaysText (settings bytes) Summary (Ok asked)) → IsSaidBy (Correlate config serial) text (Ok asked.settings)
+said_ok : (config : List ℕ) (serial : Bool) (text : Option (List ℕ)) (asked : Asked)
+    → ((bytes : List ℕ) → text ≡ Some bytes → SaysText (settings bytes) Summary (Ok asked))
+    → IsSaidBy (Correlate config serial) text (Ok asked.settings)
 said_ok config serial None asked says = tt
 said_ok config serial (Some bytes) asked says = (says bytes refl).0
 
-said_err : (config : List ℕ) (serial : Bool) (text : Option (List ℕ)) (refusal : SetRefusal) → ((bytes : List ℕ) → text ≡ Some bytes → SaysText (settings bytes) Summary (Err (answers.Settings refusal))) → IsSaidBy (Correlate config serial) text (Err refusal)
+said_err : (config : List ℕ) (serial : Bool) (text : Option (List ℕ)) (refusal : SetRefusal)
+    → ((bytes : List ℕ) → text ≡ Some bytes → SaysText (settings bytes) Summary (Err (answers.Settings refusal)))
+    → IsSaidBy (Correlate config serial) text (Err refusal)
 said_err config serial None refusal says = tt
 said_err config serial (Some bytes) refusal says = says bytes refl
 
 -- the words name a text
-pub correlate_says : (words : List (List ℕ)) (text : Option (List ℕ)) (config : List ℕ) (serial : Bool) (r : Result Asked Answer) → form words ≡ Some (Correlate config serial)
-    → ((bytes : List ℕ) → text ≡ Some bytes → SaysText (settings bytes) Summary r) → IfOk r (λ a. a.telling ≡ Summary) → IfErr r IsOfText → Says words text r
+pub correlate_says : (words : List (List ℕ)) (text : Option (List ℕ)) (config : List ℕ) (serial : Bool)
+    (r : Result Asked Answer) → form words ≡ Some (Correlate config serial)
+    → ((bytes : List ℕ) → text ≡ Some bytes → SaysText (settings bytes) Summary r) → IfOk r (λ a. a.telling ≡ Summary)
+    → IfErr r IsOfText → Says words text r
 correlate_says words text config serial (Ok asked) is says tells of = record {
-  said = record { command = Correlate config serial; is_form = ap (option_and_then if_over_sources) is; says = said_ok config serial text asked says };
+  said = record {
+    command = Correlate config serial;
+    is_form = ap (option_and_then if_over_sources) is;
+    says = said_ok config serial text asked says;
+  };
   tells = sym tells;
 }
 correlate_says words text config serial (Err (answers.Settings refusal)) is says tells of =
-    record { command = Correlate config serial; is_form = ap (option_and_then if_over_sources) is; says = said_err config serial text refusal says }
+    record {
+      command = Correlate config serial;
+      is_form = ap (option_and_then if_over_sources) is;
+      says = said_err config serial text refusal says;
+    }
 correlate_says words text config serial (Err answers.SettingsFault) is says tells of = rw is refl
-correlate_says words text config serial (Err answers.NoMemory) is says tells of = record { command = Correlate config serial; is_form = ap (option_and_then if_over_sources) is; accepted = λ p refusal e. absurd cc }
+correlate_says words text config serial (Err answers.NoMemory) is says tells of =
+    record {
+      command = Correlate config serial;
+      is_form = ap (option_and_then if_over_sources) is;
+      accepted = λ p refusal e. absurd cc;
+    }
 correlate_says words text config serial (Err answers.Usage) is says tells of = absurd of
 correlate_says words text config serial (Err answers.SinkFault) is says tells of = absurd of
 correlate_says words text config serial (Err (answers.NotBegun a)) is says tells of = absurd of

@@ -38,16 +38,19 @@ module _ (words : List (List ℕ)) (tool : names_tool words ≡ true) where
   no_correlate config serial is = let clash : None ≡ Some (Correlate config serial) = sym no_form ∙ is in absurd cc
 
 -- what a tool's code says, by whether its words have a form
-pub record ToolSays {S : Type 0} (o : Option Command) (old now : S) (source : SourceSeen) (sink : SinkSeen) (print : PrintSeen) (code : ℕ) : Type 0 where
+pub record ToolSays {S : Type 0} (o : Option Command) (old now : S) (source : SourceSeen) (sink : SinkSeen)
+    (print : PrintSeen) (code : ℕ) : Type 0 where
   pub usage : (code ≡ 1) ↔ IsNone o
   pub not_settings : code ≡ 2 → ⊥
   pub not_text : code ≡ 8 → ⊥
   pub sink_rose : code ≡ 4 → Rises sink.faults_before sink.faults
   pub print_rose : code ≡ 6 → Rises print.faults_before print.faults
-  pub calm : code ≡ 0 → (source.faults ≡ source.faults_before) × (sink.faults ≡ sink.faults_before) × (print.faults ≡ print.faults_before)
+  pub calm : code ≡ 0 → (source.faults ≡ source.faults_before) × (sink.faults ≡ sink.faults_before)
+      × (print.faults ≡ print.faults_before)
   pub out : code ≡ 5 → (now ≡ old) × IsUnused sink
 
-misused : {S : Type 0} (old now : S) (source : SourceSeen) (sink : SinkSeen) (print : PrintSeen) (code : ℕ) → code ≡ 1 → ToolSays None old now source sink print code
+misused : {S : Type 0} (old now : S) (source : SourceSeen) (sink : SinkSeen) (print : PrintSeen) (code : ℕ) → code ≡ 1
+    → ToolSays None old now source sink print code
 misused old now source sink print code one = record {
   usage = (λ e. refl, λ e. one);
   not_settings = λ e. omega (arith, e, one);
@@ -58,7 +61,8 @@ misused old now source sink print code one = record {
   out = λ e. absurd (omega (arith, e, one));
 }
 
-used : {S : Type 0} (c : Command) (old now : S) (source : SourceSeen) (sink : SinkSeen) (print : PrintSeen) (code : ℕ) → ToolEffects old now source sink print code → ToolSays (Some c) old now source sink print code
+used : {S : Type 0} (c : Command) (old now : S) (source : SourceSeen) (sink : SinkSeen) (print : PrintSeen) (code : ℕ)
+    → ToolEffects old now source sink print code → ToolSays (Some c) old now source sink print code
 used c old now source sink print code h = record {
   usage = (λ e. absurd (h.not_usage e), λ e. absurd cc);
   not_settings = h.not_settings;
@@ -69,12 +73,15 @@ used c old now source sink print code h = record {
   out = h.out;
 }
 
-pub tool_says : {S : Type 0} (o : Option Command) (old now : S) (source : SourceSeen) (sink : SinkSeen) (print : PrintSeen) (code : ℕ) → ToolRan o old now source sink print code → ToolSays o old now source sink print code
+pub tool_says : {S : Type 0} (o : Option Command) (old now : S) (source : SourceSeen) (sink : SinkSeen)
+    (print : PrintSeen) (code : ℕ) → ToolRan o old now source sink print code
+    → ToolSays o old now source sink print code
 tool_says None old now source sink print code h = elim h.told [
   | inl whole ↦ misused old now source sink print code whole.same
   | inr cut ↦ misused old now source sink print code cut.changed
 ]
-tool_says (Some c) old now source sink print code h = used c old now source sink print code (tool_effects old now source sink print code c h)
+tool_says (Some c) old now source sink print code h =
+    used c old now source sink print code (tool_effects old now source sink print code c h)
 
 module _ {S : Type 0} (xs : List S) (x y : S) (some : 0 < length xs) (is : x ≡ get_or xs 0 x) where
   -- the first source as it was, and as it is now

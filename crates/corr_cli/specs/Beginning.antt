@@ -11,8 +11,10 @@ IsNowAt None now place = now ≡ None
 IsNowAt (Some before) now place = now ≡ Some place
 
 -- the first so many sources are begun for their antennas, each at the place of its number
-pub record ArePlaced {S : Type 0} (at : S → Option (Option (ℕ × Place))) (places : List Place) (count : ℕ) (old now : List S) : Type 0 where
-  pub each : (a : ℕ) (d : S) (p : Place) → a < count → IsNowAt (at (slice_index_or old a d)) (at (slice_index_or now a d)) (Some (a, slice_index_or places a p))
+pub record ArePlaced {S : Type 0} (at : S → Option (Option (ℕ × Place))) (places : List Place) (count : ℕ)
+    (old now : List S) : Type 0 where
+  pub each : (a : ℕ) (d : S) (p : Place) → a < count
+      → IsNowAt (at (slice_index_or old a d)) (at (slice_index_or now a d)) (Some (a, slice_index_or places a p))
 
 -- how many sources a begin reached: all, or those up to the one that failed
 abbrev pub reached : {T : Type 0} → ℕ → Result T ℕ → ℕ
@@ -30,12 +32,14 @@ BeginsEach begun count now (Ok x) = AreBegun begun count now
 BeginsEach begun count now (Err failed) = AreBegunBefore begun failed now
 
 -- the sources before one are begun at their places, and that one at none
-pub record ArePlacedBefore {S : Type 0} (at : S → Option (Option (ℕ × Place))) (places : List Place) (failed : ℕ) (old now : List S) : Type 0 where
+pub record ArePlacedBefore {S : Type 0} (at : S → Option (Option (ℕ × Place))) (places : List Place) (failed : ℕ)
+    (old now : List S) : Type 0 where
   pub before : ArePlaced at places failed old now
   pub not_placed : (d : S) → IsNowAt (at (slice_index_or old failed d)) (at (slice_index_or now failed d)) None
 
 -- all sources are begun at their places, or those before the one that failed
-abbrev pub PlacesEach : {S T : Type 0} → (S → Option (Option (ℕ × Place))) → List Place → List S → List S → Result T ℕ → Type 0
+abbrev pub PlacesEach : {S T : Type 0} → (S → Option (Option (ℕ × Place))) → List Place → List S → List S
+    → Result T ℕ → Type 0
 PlacesEach at places old now (Ok x) = ArePlaced at places (length places) old now
 PlacesEach at places old now (Err failed) = ArePlacedBefore at places failed old now
 

@@ -14,12 +14,14 @@ use Rattle.corr_cli.specs.Simulating.{Simulates, names_simulated}
 
 -- an observation names the lists of these sources: the plan is its plan, and each of the plan's sources belongs to its
 -- antenna and gave nothing yet
-pub record IsObserved {S : Type 0} (theirs : Plan) (belongs : S → ℕ → Type 0) (given : S → ℕ) (plan : Plan) (sources : List S) : Type 0 where
+pub record IsObserved {S : Type 0} (theirs : Plan) (belongs : S → ℕ → Type 0) (given : S → ℕ) (plan : Plan)
+    (sources : List S) : Type 0 where
   pub same_plan : plan ≡ theirs
   pub are : AreObserved plan belongs given sources
 
 -- the words and the text give a run of the observation
-pub record Observes {S : Type 0} (theirs : Plan) (belongs : S → ℕ → Type 0) (given : S → ℕ) (words : List (List ℕ)) (text : Option (List ℕ)) (sources : List S) : Type 0 where
+pub record Observes {S : Type 0} (theirs : Plan) (belongs : S → ℕ → Type 0) (given : S → ℕ) (words : List (List ℕ))
+    (text : Option (List ℕ)) (sources : List S) : Type 0 where
   pub run : Settings
   pub has : HasRun words text run
   pub is : IsObserved theirs belongs given run.plan sources

@@ -61,25 +61,29 @@ pub record AllBegun {S : Type 0} (plan : Plan) (seen : Seen S) : Type 0 where
 pub record SentAll {S : Type 0} (plan : Plan) (seen : Seen S) (packets : ℕ) (fault : Option ℕ) : Type 0 where
   pub all_begun : AllBegun plan seen
   pub count : seen.knows ≡ true → (lists : Lists) → packets ≡ length (output plan lists)
-  pub output : (lists : List (List (List ℕ))) → AreGiven plan seen.gives seen.given seen.old lists → Appended seen.sent_before (output plan (list_of lists)) seen.sent
+  pub output : (lists : List (List (List ℕ))) → AreGiven plan seen.gives seen.given seen.old lists
+      → Appended seen.sent_before (output plan (list_of lists)) seen.sent
   pub taken : GaveTaken plan seen.gives seen.given seen.old seen.now
   pub least : HasLeastRise seen.faults plan.antennas seen.old seen.now fault
   pub sink_kept : seen.sink_faults ≡ seen.sink_faults_before
 
 -- what was counted of the output is its number, its bytes and its mark, and each report is that of its stream
-pub record IsSummed {S : Type 0} (plan : Plan) (seen : Seen S) (sent : Tally) (reports : List StreamReport) : Type 0 where
-  pub counted : (lists : List (List (List ℕ))) → AreGiven plan seen.gives seen.given seen.old lists → sent ≡ sent_of (output plan (list_of lists))
+pub record IsSummed {S : Type 0} (plan : Plan) (seen : Seen S) (sent : Tally)
+    (reports : List StreamReport) : Type 0 where
+  pub counted : (lists : List (List (List ℕ))) → AreGiven plan seen.gives seen.given seen.old lists
+      → sent ≡ sent_of (output plan (list_of lists))
   pub reports_are : AreReports plan seen.gives seen.given seen.faults seen.old seen.now reports
   pub whole : AreWholeReports plan seen.gives seen.given seen.old reports
 
 -- a front of the output was sent, of whatever lists the sources give, and the sink counted a fault
 pub record SentFront {S : Type 0} (plan : Plan) (seen : Seen S) : Type 0 where
   pub sources : AreBegun seen.begun plan.antennas seen.now
-  pub output : (lists : List (List (List ℕ))) → AreGiven plan seen.gives seen.given seen.old lists → AppendsPackets seen.sent_before seen.sent (output plan (list_of lists))
+  pub output : (lists : List (List (List ℕ))) → AreGiven plan seen.gives seen.given seen.old lists
+      → AppendsPackets seen.sent_before seen.sent (output plan (list_of lists))
   pub sink_rose : Rises seen.sink_faults_before seen.sink_faults
 
--- a source could not be begun: its count of faults alone rose, those before it are begun, those after it are as they were,
--- the sink is not begun, and nothing was sent
+-- a source could not be begun: its count of faults alone rose, those before it are begun, those after it are as they
+-- were, the sink is not begun, and nothing was sent
 pub record FailedToBegin {S : Type 0} (plan : Plan) (seen : Seen S) (antenna : ℕ) : Type 0 where
   pub rose : AloneRose seen.faults plan.antennas antenna seen.old seen.now
   pub begun : AreBegunBefore seen.begun antenna seen.now
@@ -106,7 +110,8 @@ pub record Untouched {S : Type 0} (seen : Seen S) : Type 0 where
 -- what a run of the plan, printed so, comes to; all memory is taken before anything is begun
 abbrev pub RunsPlan : {S : Type 0} → Telling → Plan → Seen S → Answer → Type 0
 RunsPlan telling plan seen (Sent packets fault) = (telling ≡ Packets) × SentAll plan seen packets fault
-RunsPlan telling plan seen (Summed sent reports fault) = (telling ≡ Summary) × SentAll plan seen sent.packets fault × IsSummed plan seen sent reports
+RunsPlan telling plan seen (Summed sent reports fault) =
+    (telling ≡ Summary) × SentAll plan seen sent.packets fault × IsSummed plan seen sent reports
 RunsPlan telling plan seen SinkFault = SentFront plan seen
 RunsPlan telling plan seen (NotBegun antenna) = FailedToBegin plan seen antenna
 RunsPlan telling plan seen NoMemory = Untouched seen
@@ -120,7 +125,8 @@ IsOverBegun SinkFault = Unit {0}
 IsOverBegun other = ⊥
 
 -- the words, and a text that may be told, say a run, and it came to this
-pub record RunsSaid {S : Type 0} (words : List (List ℕ)) (text : Option (List ℕ)) (seen : Seen S) (answer : Answer) : Type 0 where
+pub record RunsSaid {S : Type 0} (words : List (List ℕ)) (text : Option (List ℕ)) (seen : Seen S)
+    (answer : Answer) : Type 0 where
   pub run : Run
   pub said : HasSaid words text (Ok run)
   pub runs : RunsPlan (telling_of said.command) run.plan seen answer
@@ -161,7 +167,8 @@ Comes words seen text SinkFault = OfRun words seen text SinkFault
 Comes words seen text (Simulated packets) = ⊥
 
 -- there is an answer to the words that the run came to, and it was told
-pub record RanAs {S : Type 0} (words : List (List ℕ)) (seen : Seen S) (text : TextSeen) (before now : Option (List ℕ)) (faults_before faults code : ℕ) : Type 0 where
+pub record RanAs {S : Type 0} (words : List (List ℕ)) (seen : Seen S) (text : TextSeen) (before now : Option (List ℕ))
+    (faults_before faults code : ℕ) : Type 0 where
   pub answer : Answer
   pub comes : Comes words seen text answer
   pub told : Tells before now faults_before faults answer code
@@ -170,16 +177,18 @@ pub record RanAs {S : Type 0} (words : List (List ℕ)) (seen : Seen S) (text : 
 abbrev pub IsWhole : {S : Type 0} → ℕ → (S → Bool) → Plan → List S → Type 0
 IsWhole code begun plan now = ((code ≡ 0) ⊎ (code ≡ 6)) ⊎ ((code ≡ 3) × AreBegun begun plan.antennas now)
 
--- the source of some antenna of the plan is the least whose count of faults rose; where not all are begun, nothing was sent,
--- and the sources after it are as they were
-pub record FaultOfSource {S : Type 0} (plan : Plan) (begun : S → Bool) (faults : S → ℕ) (old now : List S) (sent_before sent : Option (List (List ℕ))) : Type 0 where
+-- the source of some antenna of the plan is the least whose count of faults rose; where not all are begun, nothing was
+-- sent, and the sources after it are as they were
+pub record FaultOfSource {S : Type 0} (plan : Plan) (begun : S → Bool) (faults : S → ℕ) (old now : List S)
+    (sent_before sent : Option (List (List ℕ))) : Type 0 where
   pub antenna : ℕ
   pub least : IsLeastRise faults plan.antennas antenna old now
   pub unsent : (AreBegun begun plan.antennas now → ⊥) → sent ≡ sent_before
   pub later : (AreBegun begun plan.antennas now → ⊥) → AreSameFrom (antenna + 1) old now
 
 -- the sources are as they were, the sink is not begun, and nothing was sent
-pub record IsUntouched {S : Type 0} (old now : List S) (sink_begun : Bool) (sent_before sent : Option (List (List ℕ))) : Type 0 where
+pub record IsUntouched {S : Type 0} (old now : List S) (sink_begun : Bool)
+    (sent_before sent : Option (List (List ℕ))) : Type 0 where
   pub same : now ≡ old
   pub sink_unbegun : sink_begun ≡ false
   pub nothing : sent ≡ sent_before
@@ -189,6 +198,7 @@ pub record IsRefusedAs (words : List (List ℕ)) (text : Option (List ℕ)) : Ty
   pub refusal : SetRefusal
   pub said : HasSaid words text (Err refusal)
 
--- the code where settings are refused: 2, but for want of memory or a fault of their source where they are read from a text
+-- the code where settings are refused: 2, but for want of memory or
+-- a fault of their source where they are read from a text
 abbrev pub RefusedCode : List (List ℕ) → ℕ → Type 0
 RefusedCode words code = (code ≡ 2) ⊎ ((needs_text words ≡ true) × ((code ≡ 5) ⊎ (code ≡ 8)))

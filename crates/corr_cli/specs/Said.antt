@@ -64,7 +64,8 @@ said_by (Plain p) text = Some (of_plain p)
 said_by (Correlate config serial) text = option_map settings text
 said_by other text = None
 
--- the settings that the words and the text say, or why they are refused; none where there is no form, or the text is not told
+-- the settings that the words and the text say, or why they are
+-- refused; none where there is no form, or the text is not told
 abbrev pub said : List (List ℕ) → Option (List ℕ) → Option (Result Settings SetRefusal)
 said words text = option_and_then (λ command. said_by command text) (form_of words)
 

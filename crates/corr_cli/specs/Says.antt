@@ -90,4 +90,5 @@ pub record IsPlainRefused (words : List (List ℕ)) (refusal : SetRefusal) : Typ
 -- the numbers of the words are refused so; or they are not, where the words are those of `plain`
 abbrev pub RefusesNumbers : List (List ℕ) → Option SetRefusal → Type 0
 RefusesNumbers words (Some refusal) = IsPlainRefused words refusal
-RefusesNumbers words None = (p : PlainWords) (refusal : SetRefusal) → form_of words ≡ Some (Plain p) → of_plain p ≡ Err refusal → ⊥
+RefusesNumbers words None =
+    (p : PlainWords) (refusal : SetRefusal) → form_of words ≡ Some (Plain p) → of_plain p ≡ Err refusal → ⊥

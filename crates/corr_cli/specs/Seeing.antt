@@ -16,25 +16,54 @@ pub record SourcesSeen (S : Type 0) : Type 0 where
   pub old : List S
   pub now : List S
 
-abbrev pub sources_seen : {S : Type 0} → Bool → (S → Option (List (List ℕ))) → (S → ℕ) → (S → Bool) → (S → ℕ) → List S → List S → SourcesSeen S
+abbrev pub sources_seen : {S : Type 0} → Bool → (S → Option (List (List ℕ))) → (S → ℕ) → (S → Bool) → (S → ℕ) → List S
+    → List S → SourcesSeen S
 sources_seen knows gives given begun faults old now =
-    record { knows = knows; gives = known knows gives; given = given; begun = begun; faults = faults; old = old; now = now }
+    record {
+      knows = knows;
+      gives = known knows gives;
+      given = given;
+      begun = begun;
+      faults = faults;
+      old = old;
+      now = now;
+    }
 
 -- the first source
-abbrev pub source_seen : {S : Type 0} → (S → Option (List (List ℕ))) → (S → ℕ) → (S → Bool) → (S → Option (Option (ℕ × Place))) → (S → ℕ) → S → S → SourceSeen
+abbrev pub source_seen : {S : Type 0} → (S → Option (List (List ℕ))) → (S → ℕ) → (S → Bool)
+    → (S → Option (Option (ℕ × Place))) → (S → ℕ) → S → S → SourceSeen
 source_seen gives given begun at faults old now =
-    record { gives = gives old; given_before = given old; given = given now; begun = begun now; at = at now; faults_before = faults old; faults = faults now }
+    record {
+      gives = gives old;
+      given_before = given old;
+      given = given now;
+      begun = begun now;
+      at = at now;
+      faults_before = faults old;
+      faults = faults now;
+    }
 
-abbrev pub sink_seen : {K : Type 0} → (K → Option (List (List ℕ))) → (K → Bool) → (K → Option (Option Place)) → (K → ℕ) → K → K → SinkSeen
+abbrev pub sink_seen : {K : Type 0} → (K → Option (List (List ℕ))) → (K → Bool) → (K → Option (Option Place)) → (K → ℕ)
+    → K → K → SinkSeen
 sink_seen sent begun at faults old now =
-    record { sent_before = sent old; sent = sent now; begun = begun now; at = at now; faults_before = faults old; faults = faults now }
+    record {
+      sent_before = sent old;
+      sent = sent now;
+      begun = begun now;
+      at = at now;
+      faults_before = faults old;
+      faults = faults now;
+    }
 
 abbrev pub print_seen : {P : Type 0} → (P → Option (List ℕ)) → (P → ℕ) → P → P → PrintSeen
-print_seen written faults old now = record { before = written old; now = written now; faults_before = faults old; faults = faults now }
+print_seen written faults old now =
+    record { before = written old; now = written now; faults_before = faults old; faults = faults now }
 
 -- the source of the settings
-abbrev pub config_seen : {D : Type 0} → (D → Option (List ℕ)) → (D → Bool) → (D → Option (Option (List ℕ))) → (D → ℕ) → D → D → ConfigSeen
-config_seen left begun at faults old now = record { text = left old; begun = begun now; at = at now; faults_before = faults old; faults = faults now }
+abbrev pub config_seen : {D : Type 0} → (D → Option (List ℕ)) → (D → Bool) → (D → Option (Option (List ℕ))) → (D → ℕ)
+    → D → D → ConfigSeen
+config_seen left begun at faults old now =
+    record { text = left old; begun = begun now; at = at now; faults_before = faults old; faults = faults now }
 
 abbrev pub text_seen : {D : Type 0} → (D → Option (List ℕ)) → (D → ℕ) → D → D → TextSeen
 text_seen left faults old now = record { text = left old; faults_before = faults old; faults = faults now }

@@ -1,5 +1,5 @@
--- What a run over simulated inputs comes to: `trial` correlates those of all antennas, and `simulate` sends that of one.
--- This project's own. What is sent is the output of the definitions, or the list of the antenna.
+-- What a run over simulated inputs comes to: `trial` correlates those of all antennas, and `simulate` sends that of
+-- one. This project's own. What is sent is the output of the definitions, or the list of the antenna.
 use Rattle.std.specs.Prelude.{◌≡◌, ◌||◌, ℕ, ◌<◌, Bool, true, false, List, [], length, map, slice_index_or, Option, Some, None, Result, Ok, Err, option_map, bytes_eq, codes}
 use Rattle.corr_model.specs.declared.plan.Plan.{Plan}
 use Rattle.corr_model.specs.Lists.{numbers}
@@ -130,13 +130,16 @@ pub record ConfigSeen : Type 0 where
 -- each report is that of the simulated input of its antenna
 pub record AreReported (plan : Plan) (seed : ℕ) (reports : List StreamReport) : Type 0 where
   pub as_many : length reports ≡ plan.antennas
-  pub each : (a : ℕ) (r : StreamReport) → a < plan.antennas → IsReportOf plan a (simulated plan seed a) (slice_index_or reports a r)
+  pub each : (a : ℕ) (r : StreamReport) → a < plan.antennas
+      → IsReportOf plan a (simulated plan seed a) (slice_index_or reports a r)
 
 -- the answer counts all that the command sends, and reports on each input, where that is known; no source fails
 abbrev pub Counts : Bool → Command → Run → Answer → Type 0
 Counts knows (Trial config seed serial) run (answers.Summed sent reports fault) =
-    (fault ≡ None) × (knows ≡ true → (sent ≡ sent_of (strings_of (Trial config seed serial) run)) × AreReported run.plan seed reports)
-Counts knows (Simulate config seed antenna out) run (answers.Simulated packets) = packets ≡ length (simulated run.plan seed antenna)
+    (fault ≡ None) × (knows ≡ true
+    → (sent ≡ sent_of (strings_of (Trial config seed serial) run)) × AreReported run.plan seed reports)
+Counts knows (Simulate config seed antenna out) run (answers.Simulated packets) =
+    packets ≡ length (simulated run.plan seed antenna)
 Counts knows command run other = ⊥
 
 -- the sink is not begun, nothing was sent, and it counted no fault
@@ -145,7 +148,8 @@ pub record IsIdle (sink : SinkSeen) : Type 0 where
   pub calm : sink.faults ≡ sink.faults_before
 
 -- all was sent to its place, and counted; what that is holds where it is known
-pub record SendsStrings (knows : Bool) (command : Command) (run : Run) (sink : SinkSeen) (answer : Answer) : Type 0 where
+pub record SendsStrings (knows : Bool) (command : Command) (run : Run) (sink : SinkSeen)
+    (answer : Answer) : Type 0 where
   pub accepted : accepted_for command run ≡ Ok run
   pub begun : sink.begun ≡ true
   pub at : IsAtOwn sink.begun sink.at (target_of command run)
@@ -165,8 +169,10 @@ abbrev pub RunsFor : Bool → Command → Run → SinkSeen → Answer → Type 0
 RunsFor knows command run sink (answers.Settings refusal) = (accepted_for command run ≡ Err refusal) × IsIdle sink
 RunsFor knows command run sink answers.NoMemory = IsIdle sink
 RunsFor knows command run sink answers.SinkFault = SendsSome knows command run sink
-RunsFor knows command run sink (answers.Summed sent reports fault) = SendsStrings knows command run sink (answers.Summed sent reports fault)
-RunsFor knows command run sink (answers.Simulated packets) = SendsStrings knows command run sink (answers.Simulated packets)
+RunsFor knows command run sink (answers.Summed sent reports fault) =
+    SendsStrings knows command run sink (answers.Summed sent reports fault)
+RunsFor knows command run sink (answers.Simulated packets) =
+    SendsStrings knows command run sink (answers.Simulated packets)
 RunsFor knows command run sink other = ⊥
 
 -- the sink is idle, and the source of the settings counted no fault
@@ -219,20 +225,26 @@ pub record OfSettings (command : Command) (config : ConfigSeen) (P : Run → Typ
 -- what a command over simulated inputs comes to; no source of packets is used
 abbrev pub ComesTo : Bool → Command → ConfigSeen → SinkSeen → Answer → Type 0
 ComesTo knows command config sink answers.SettingsFault = Rises config.faults_before config.faults × IsIdle sink
-ComesTo knows command config sink (answers.Settings refusal) = SaysFor command config.text (Err refusal) × IsLeft config sink
+ComesTo knows command config sink (answers.Settings refusal) =
+    SaysFor command config.text (Err refusal) × IsLeft config sink
 ComesTo knows command config sink answers.NoMemory = IsLeft config sink
-ComesTo knows command config sink answers.SinkFault = OfSettings command config (λ run. SendsSome knows command run sink)
-ComesTo knows command config sink (answers.Summed sent reports fault) = OfSettings command config (λ run. SendsStrings knows command run sink (answers.Summed sent reports fault))
-ComesTo knows command config sink (answers.Simulated packets) = OfSettings command config (λ run. SendsStrings knows command run sink (answers.Simulated packets))
+ComesTo knows command config sink answers.SinkFault =
+    OfSettings command config (λ run. SendsSome knows command run sink)
+ComesTo knows command config sink (answers.Summed sent reports fault) =
+    OfSettings command config (λ run. SendsStrings knows command run sink (answers.Summed sent reports fault))
+ComesTo knows command config sink (answers.Simulated packets) =
+    OfSettings command config (λ run. SendsStrings knows command run sink (answers.Simulated packets))
 ComesTo knows command config sink other = ⊥
 
 -- what the words of a command over simulated inputs come to, by their form
 abbrev pub WordsCome : Bool → Option Command → ConfigSeen → SinkSeen → Answer → Type 0
 WordsCome knows None config sink answer = (answer ≡ answers.Usage) × IsLeft config sink
-WordsCome knows (Some command) config sink answer = ComesTo knows command config sink answer × IsAtOwn config.begun config.at (config_of command)
+WordsCome knows (Some command) config sink answer =
+    ComesTo knows command config sink answer × IsAtOwn config.begun config.at (config_of command)
 
 -- there is an answer to the words that the run came to, and it was told
-pub record SimulatedRan (knows : Bool) (o : Option Command) (config : ConfigSeen) (sink : SinkSeen) (print : PrintSeen) (code : ℕ) : Type 0 where
+pub record SimulatedRan (knows : Bool) (o : Option Command) (config : ConfigSeen) (sink : SinkSeen) (print : PrintSeen)
+    (code : ℕ) : Type 0 where
   pub answer : Answer
   pub comes : WordsCome knows o config sink answer
   pub told : Tells print.before print.now print.faults_before print.faults answer code

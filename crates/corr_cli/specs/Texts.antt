@@ -71,13 +71,15 @@ abbrev pub unprinted_code : Answer → ℕ
 unprinted_code answer = unprinted (code_of answer)
 
 -- the whole text was printed, no fault was counted, and the code is the answer's
-pub record TellsWhole (before now : Option (List ℕ)) (faults_before faults : ℕ) (answer : Answer) (code : ℕ) : Type 0 where
+pub record TellsWhole (before now : Option (List ℕ)) (faults_before faults : ℕ) (answer : Answer)
+    (code : ℕ) : Type 0 where
   pub written : Appended before (text_of answer) now
   pub faults_kept : faults ≡ faults_before
   pub code_is : code ≡ code_of answer
 
 -- a front of the text was printed, the count of faults rose, and the code is the answer's or 6
-pub record TellsFront (before now : Option (List ℕ)) (faults_before faults : ℕ) (answer : Answer) (code : ℕ) : Type 0 where
+pub record TellsFront (before now : Option (List ℕ)) (faults_before faults : ℕ) (answer : Answer)
+    (code : ℕ) : Type 0 where
   pub written : AppendsFront before now (text_of answer)
   pub rises : Rises faults_before faults
   pub code_is : code ≡ unprinted_code answer

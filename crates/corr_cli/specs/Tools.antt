@@ -24,7 +24,8 @@ use Rattle.corr_cli.specs.Texts.{unprinted}
 -- the second word is the name of a tool
 abbrev pub names_tool : List (List ℕ) → Bool
 names_tool words =
-    bytes_eq (word_at words 1) (codes "relay") || (bytes_eq (word_at words 1) (codes "inspect") || bytes_eq (word_at words 1) (codes "decode"))
+    bytes_eq (word_at words 1) (codes "relay")
+    || (bytes_eq (word_at words 1) (codes "inspect") || bytes_eq (word_at words 1) (codes "decode"))
 
 -- the command is one of a tool
 abbrev pub IsOfTool : Command → Type 0
@@ -34,7 +35,8 @@ IsOfTool (Decode from limit) = Unit {0}
 IsOfTool other = ⊥
 
 -- the text was written and the code is its own; or a front of it, the count of faults rose, and 6 stands in place of 0
-pub record IsTold (before now : Option (List ℕ)) (faults_before faults : ℕ) (text : List ℕ) (own code : ℕ) : Type 0 where
+pub record IsTold (before now : Option (List ℕ)) (faults_before faults : ℕ) (text : List ℕ)
+    (own code : ℕ) : Type 0 where
   pub written : Appended before text now
   pub calm : faults ≡ faults_before
   pub same : code ≡ own
@@ -85,7 +87,8 @@ abbrev pub relay_text : RelayEnd → List ℕ
 relay_text SourceUnbegun = status_text (status.SourceFault 0)
 relay_text SinkUnbegun = status_text status.SinkFault
 relay_text (Over (relayed.Done packets)) = status_text (status.Relayed packets)
-relay_text (Over (relayed.SourceFault packets)) = status_text (status.Relayed packets) ++ status_text (status.SourceFault 0)
+relay_text (Over (relayed.SourceFault packets)) =
+    status_text (status.Relayed packets) ++ status_text (status.SourceFault 0)
 relay_text (Over relayed.SinkFault) = status_text status.SinkFault
 
 abbrev pub relay_code : RelayEnd → ℕ
@@ -124,7 +127,8 @@ RelayComes limit source sink SinkUnbegun = RelaySinkFailed source sink
 RelayComes limit source sink (Over how) = RelayWent limit source sink how
 
 -- a relay came to an end, and its text was told
-pub record RelayRan (from to : Place) (limit : ℕ) (source : SourceSeen) (sink : SinkSeen) (print : PrintSeen) (code : ℕ) : Type 0 where
+pub record RelayRan (from to : Place) (limit : ℕ) (source : SourceSeen) (sink : SinkSeen) (print : PrintSeen)
+    (code : ℕ) : Type 0 where
   pub end : RelayEnd
   pub comes : RelayComes limit source sink end
   pub told : TellsText print.before print.now print.faults_before print.faults (relay_text end) (relay_code end) code
@@ -135,7 +139,8 @@ pub record RelayRan (from to : Place) (limit : ℕ) (source : SourceSeen) (sink 
 pub record ReadFailed (source : SourceSeen) (print : PrintSeen) (code : ℕ) : Type 0 where
   pub rose : Rises source.faults_before source.faults
   pub unbegun : source.begun ≡ false
-  pub told : TellsText print.before print.now print.faults_before print.faults (status_text (status.SourceFault 0)) 3 code
+  pub told : TellsText print.before print.now print.faults_before print.faults
+      (status_text (status.SourceFault 0)) 3 code
 
 -- the code of what was read, by its own code and by whether its text was written
 abbrev pub read_code : {T E : Type 0} → ℕ → Result T E → ℕ
@@ -183,7 +188,8 @@ pub record IsOut {S : Type 0} (old now : S) (print : PrintSeen) (code : ℕ) : T
 
 -- what a decoding comes to
 abbrev pub DecodeComes : {S : Type 0} → ℕ → S → S → SourceSeen → PrintSeen → ℕ → Type 0
-DecodeComes limit old now source print code = IsOut old now print code ⊎ (ReadFailed source print code ⊎ DecodeWent limit source print code)
+DecodeComes limit old now source print code =
+    IsOut old now print code ⊎ (ReadFailed source print code ⊎ DecodeWent limit source print code)
 
 -- a tool that uses no sink
 pub record LeavesSink (P : Type 0) (from : Place) (source : SourceSeen) (sink : SinkSeen) : Type 0 where
@@ -203,7 +209,8 @@ pub record IsMisused {S : Type 0} (old now : S) (sink : SinkSeen) (print : Print
 abbrev pub CommandRan : {S : Type 0} → Command → S → S → SourceSeen → SinkSeen → PrintSeen → ℕ → Type 0
 CommandRan (Relay from to limit) old now source sink print code = RelayRan from to limit source sink print code
 CommandRan (Inspect from) old now source sink print code = LeavesSink (InspectComes source print code) from source sink
-CommandRan (Decode from limit) old now source sink print code = LeavesSink (DecodeComes limit old now source print code) from source sink
+CommandRan (Decode from limit) old now source sink print code =
+    LeavesSink (DecodeComes limit old now source print code) from source sink
 CommandRan other old now source sink print code = ⊥
 
 -- there was no memory to read the words, and nothing was begun
@@ -215,4 +222,5 @@ pub record WordsAreOut {S : Type 0} (old now : S) (sink : SinkSeen) (print : Pri
 -- what the words of a tool come to, by their form
 abbrev pub ToolRan : {S : Type 0} → Option Command → S → S → SourceSeen → SinkSeen → PrintSeen → ℕ → Type 0
 ToolRan None old now source sink print code = IsMisused old now sink print code
-ToolRan (Some command) old now source sink print code = WordsAreOut old now sink print code ⊎ CommandRan command old now source sink print code
+ToolRan (Some command) old now source sink print code =
+    WordsAreOut old now sink print code ⊎ CommandRan command old now source sink print code

@@ -14,23 +14,28 @@ use Rattle.corr_core.specs.declared.event.Event.TheVariants.{Packet, End, Put, T
 use Rattle.corr_core.specs.declared.event.Stepped.TheVariants.{Idle, Failed}
 
 -- the feed that changed has ended as said of it, and the others as they had
-end_here : (old now : PartsView) (a : ℕ) (f : FeedState) → now.feeds ≡ set old.feeds a f → now.plan ≡ old.plan → a < length old.feeds → end_of now a ≡ f.report.ended
+end_here : (old now : PartsView) (a : ℕ) (f : FeedState) → now.feeds ≡ set old.feeds a f → now.plan ≡ old.plan
+    → a < length old.feeds → end_of now a ≡ f.report.ended
 end_here old now a f feeds plan low =
-    ap (λ fs. (get_or fs a (no_feed now.plan)).report.ended) feeds ∙ ap (λ (k : FeedState). k.report.ended) (get_or-set_same old.feeds a f (no_feed now.plan) low)
+    ap (λ fs. (get_or fs a (no_feed now.plan)).report.ended) feeds ∙ ap (λ (k : FeedState). k.report.ended)
+    (get_or-set_same old.feeds a f (no_feed now.plan) low)
 
-end_there : (old now : PartsView) (a : ℕ) (f : FeedState) → now.feeds ≡ set old.feeds a f → now.plan ≡ old.plan → KeepsOtherEnds old now a
+end_there : (old now : PartsView) (a : ℕ) (f : FeedState) → now.feeds ≡ set old.feeds a f → now.plan ≡ old.plan
+    → KeepsOtherEnds old now a
 end_there old now a f feeds plan b low apart =
     ap (λ fs. (get_or fs b (no_feed now.plan)).report.ended) feeds
     ∙ ap (λ (k : FeedState). k.report.ended) (get_or-set_other old.feeds a b f (no_feed now.plan) apart)
     ∙ ap (λ p. (get_or old.feeds b (no_feed p)).report.ended) plan
 
-pub took_ends : (old now : PartsView) (a : ℕ) (b : List ℕ) → FeedChanged old now a (λ f g. TookString f g b) → EndsByString old now a true
+pub took_ends : (old now : PartsView) (a : ℕ) (b : List ℕ) → FeedChanged old now a (λ f g. TookString f g b)
+    → EndsByString old now a true
 took_ends old now a b h =
     let feeds = ap (λ (k : PartsView). k.feeds) h.parts in
     let plan = ap (λ (k : PartsView). k.plan) h.parts in
     (λ low. ap is_said (end_here old now a h.feed feeds plan low) ∙ h.does.own, end_there old now a h.feed feeds plan)
 
-pub ended_ends : (old now : PartsView) (a : ℕ) (how : Ending) → FeedChanged old now a (λ f g. TookEnd f g how) → EndsAsSaid old now a how true
+pub ended_ends : (old now : PartsView) (a : ℕ) (how : Ending) → FeedChanged old now a (λ f g. TookEnd f g how)
+    → EndsAsSaid old now a how true
 ended_ends old now a how h =
     let feeds = ap (λ (k : PartsView). k.feeds) h.parts in
     let plan = ap (λ (k : PartsView). k.plan) h.parts in
@@ -44,34 +49,42 @@ got_ends old now a h b low =
     elim (cases_eq b a) [
       | inl same ↦
           subst (λ c. end_of now c ≡ end_of old c) (sym same)
-          (end_here old now a h.feed feeds plan (subst (λ c. c < length old.feeds) same low) ∙ ap (λ (r : StreamReport). r.ended) h.gave.ended)
+          (end_here old now a h.feed feeds plan (subst (λ c. c < length old.feeds) same low) ∙ ap
+          (λ (r : StreamReport). r.ended) h.gave.ended)
       | inr apart ↦ end_there old now a h.feed feeds plan b low apart
     ]
 
 -- where the feeds are as they were, so are their ends
 pub same_ends : (old now : PartsView) → now.feeds ≡ old.feeds → now.plan ≡ old.plan → KeepsEnds old now
 same_ends old now feeds plan b low =
-    ap (λ fs. (get_or fs b (no_feed now.plan)).report.ended) feeds ∙ ap (λ p. (get_or old.feeds b (no_feed p)).report.ended) plan
+    ap (λ fs. (get_or fs b (no_feed now.plan)).report.ended) feeds ∙ ap
+    (λ p. (get_or old.feeds b (no_feed p)).report.ended) plan
 
 pub none_ends : (p : PartsView) → KeepsEnds p p
 none_ends p b low = refl
 
-pub put_ends : (old mid now : PartsView) (a : ℕ) (answer : Bool) → KeepsEnds old mid → HandPut mid now a answer → KeepsEnds old now
+pub put_ends : (old mid now : PartsView) (a : ℕ) (answer : Bool) → KeepsEnds old mid → HandPut mid now a answer
+    → KeepsEnds old now
 put_ends old mid now a answer first h b low =
     let feeds = ap (λ (k : PartsView). k.feeds) h.parts in
     let plan = ap (λ (k : PartsView). k.plan) h.parts in
-    ap (λ fs. (get_or fs b (no_feed now.plan)).report.ended) feeds ∙ ap (λ p. (get_or mid.feeds b (no_feed p)).report.ended) plan ∙ first b low
+    ap (λ fs. (get_or fs b (no_feed now.plan)).report.ended) feeds ∙ ap
+    (λ p. (get_or mid.feeds b (no_feed p)).report.ended) plan ∙ first b low
 
 pub released_ends : (old now : PartsView) (answer : Bool) → Releases old now answer → KeepsEnds old now
-released_ends old now true h = same_ends old now (ap (λ (k : PartsView). k.feeds) h.parts) (ap (λ (k : PartsView). k.plan) h.parts)
-released_ends old now false h = same_ends old now (ap (λ (k : PartsView). k.feeds) h.1) (ap (λ (k : PartsView). k.plan) h.1)
+released_ends old now true h =
+    same_ends old now (ap (λ (k : PartsView). k.feeds) h.parts) (ap (λ (k : PartsView). k.plan) h.parts)
+released_ends old now false h =
+    same_ends old now (ap (λ (k : PartsView). k.feeds) h.1) (ap (λ (k : PartsView). k.plan) h.1)
 
 -- the answer of a step by what happened
-pub string_after : (old now : PartsView) (a : ℕ) (b : Bool) → EndsByString old now a b → (stepped_of b ≢ Failed) × EndsByString old now a (has_moved (stepped_of b))
+pub string_after : (old now : PartsView) (a : ℕ) (b : Bool) → EndsByString old now a b
+    → (stepped_of b ≢ Failed) × EndsByString old now a (has_moved (stepped_of b))
 string_after old now a true h = (λ e. absurd cc, h)
 string_after old now a false h = (λ e. absurd cc, h)
 
-pub said_after : (old now : PartsView) (a : ℕ) (how : Ending) (b : Bool) → EndsAsSaid old now a how b → (stepped_of b ≢ Failed) × EndsAsSaid old now a how (has_moved (stepped_of b))
+pub said_after : (old now : PartsView) (a : ℕ) (how : Ending) (b : Bool) → EndsAsSaid old now a how b
+    → (stepped_of b ≢ Failed) × EndsAsSaid old now a how (has_moved (stepped_of b))
 said_after old now a how true h = (λ e. absurd cc, h)
 said_after old now a how false h = (λ e. absurd cc, h)
 

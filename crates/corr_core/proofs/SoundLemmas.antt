@@ -14,7 +14,8 @@ use Rattle.corr_machine.proofs.Places.{set_each}
 use Rattle.corr_core.specs.Parts.{PartsView, no_feed, IsSoundParts}
 
 -- a feed
-pub sound_feed : (names : Bool) (named : Plan) (p : PartsView) (a : ℕ) (g : FeedState) → IsSoundParts names named p → a < p.plan.antennas → g.columns.plan ≡ p.plan → IsSoundParts names named (record p { feeds = set p.feeds a g })
+pub sound_feed : (names : Bool) (named : Plan) (p : PartsView) (a : ℕ) (g : FeedState) → IsSoundParts names named p
+    → a < p.plan.antennas → g.columns.plan ≡ p.plan → IsSoundParts names named (record p { feeds = set p.feeds a g })
 sound_feed names named p a g h few same = record {
   fits = h.fits;
   named_plan = h.named_plan;
@@ -22,7 +23,8 @@ sound_feed names named p a g h few same = record {
   hand_count = h.hand_count;
   work_count_is = h.work_count_is;
   ring_plan = h.ring_plan;
-  feed_plans = set_each (λ c f. c < p.plan.antennas → f.columns.plan ≡ p.plan) p.feeds a g (no_feed p.plan) (omega (arith, few, h.feed_count)) (λ low. same) (λ c ne low. h.feed_plans c low);
+  feed_plans = set_each (λ c f. c < p.plan.antennas → f.columns.plan ≡ p.plan) p.feeds a g (no_feed p.plan)
+      (omega (arith, few, h.feed_count)) (λ low. same) (λ c ne low. h.feed_plans c low);
   hand_plans = h.hand_plans;
   work_plans = h.work_plans;
   computed = h.computed;
@@ -30,7 +32,8 @@ sound_feed names named p a g h few same = record {
 }
 
 -- a hand, and the ring
-pub sound_hand : (names : Bool) (named : Plan) (p : PartsView) (a : ℕ) (hand : Hand) (ring : RingView) → IsSoundParts names named p → a < p.plan.antennas → hand.column.plan ≡ p.plan → ring.plan ≡ p.plan
+pub sound_hand : (names : Bool) (named : Plan) (p : PartsView) (a : ℕ) (hand : Hand) (ring : RingView)
+    → IsSoundParts names named p → a < p.plan.antennas → hand.column.plan ≡ p.plan → ring.plan ≡ p.plan
     → IsSoundParts names named (record p { hands = set p.hands a hand; ring = ring })
 sound_hand names named p a hand ring h few same same_ring = record {
   fits = h.fits;
@@ -40,14 +43,16 @@ sound_hand names named p a hand ring h few same same_ring = record {
   work_count_is = h.work_count_is;
   ring_plan = same_ring;
   feed_plans = h.feed_plans;
-  hand_plans = set_each (λ c k. c < p.plan.antennas → k.column.plan ≡ p.plan) p.hands a hand (spare_hand p.plan) (omega (arith, few, h.hand_count)) (λ low. same) (λ c ne low. h.hand_plans c low);
+  hand_plans = set_each (λ c k. c < p.plan.antennas → k.column.plan ≡ p.plan) p.hands a hand (spare_hand p.plan)
+      (omega (arith, few, h.hand_count)) (λ low. same) (λ c ne low. h.hand_plans c low);
   work_plans = h.work_plans;
   computed = h.computed;
   outgoing_plan = h.outgoing_plan;
 }
 
 -- a work, and the ring
-pub sound_work : (names : Bool) (named : Plan) (p : PartsView) (w : ℕ) (work : WorkView) (ring : RingView) → IsSoundParts names named p → w < work_count p.plan → work.plan ≡ p.plan → work.stage ≢ Taken → ring.plan ≡ p.plan
+pub sound_work : (names : Bool) (named : Plan) (p : PartsView) (w : ℕ) (work : WorkView) (ring : RingView)
+    → IsSoundParts names named p → w < work_count p.plan → work.plan ≡ p.plan → work.stage ≢ Taken → ring.plan ≡ p.plan
     → IsSoundParts names named (record p { ring = ring; works = set p.works w work })
 sound_work names named p w work ring h few same stage same_ring = record {
   fits = h.fits;
@@ -58,8 +63,10 @@ sound_work names named p w work ring h few same stage same_ring = record {
   ring_plan = same_ring;
   feed_plans = h.feed_plans;
   hand_plans = h.hand_plans;
-  work_plans = set_each (λ c k. c < work_count p.plan → k.plan ≡ p.plan) p.works w work (free_work p.plan 0) (omega (arith, few, h.work_count_is)) (λ low. same) (λ c ne low. h.work_plans c low);
-  computed = set_each (λ c k. c < work_count p.plan → k.stage ≢ Taken) p.works w work (free_work p.plan 0) (omega (arith, few, h.work_count_is)) (λ low. stage) (λ c ne low. h.computed c low);
+  work_plans = set_each (λ c k. c < work_count p.plan → k.plan ≡ p.plan) p.works w work (free_work p.plan 0)
+      (omega (arith, few, h.work_count_is)) (λ low. same) (λ c ne low. h.work_plans c low);
+  computed = set_each (λ c k. c < work_count p.plan → k.stage ≢ Taken) p.works w work (free_work p.plan 0)
+      (omega (arith, few, h.work_count_is)) (λ low. stage) (λ c ne low. h.computed c low);
   outgoing_plan = h.outgoing_plan;
 }
 

@@ -52,9 +52,12 @@ refuses_send held plan n (inr (inl other)) to = other to.same_number
 refuses_send held plan n (inr (inr other)) to = other to.done
 
 -- a column put into the slot that waits for it
-pub put_stands : (plan : Plan) (values : Values) (s : View) (x : SlotState) (hand : Hand) → SlotStandsFor plan values s x → AcceptsPut (held_of s) hand.column
-    → hand.column.antenna < plan.antennas → hand.is_closed ≡ true → hand.column.cells ≡ values.column hand.column.antenna hand.column.number
-    → SlotStandsFor plan values (record s { columns = set s.columns hand.column.antenna hand }) (with_column hand.column.antenna x)
+pub put_stands : (plan : Plan) (values : Values) (s : View) (x : SlotState) (hand : Hand)
+    → SlotStandsFor plan values s x → AcceptsPut (held_of s) hand.column
+    → hand.column.antenna < plan.antennas → hand.is_closed ≡ true
+    → hand.column.cells ≡ values.column hand.column.antenna hand.column.number
+    → SlotStandsFor plan values (record s { columns = set s.columns hand.column.antenna hand })
+    (with_column hand.column.antenna x)
 put_stands plan values s x hand h for' few closed cells =
     let a0 = hand.column.antenna in
     let fills : is_filling (kind_of s.kind) ≡ true = ap (λ k. is_filling (kind_of k)) for'.filling in
@@ -70,10 +73,12 @@ put_stands plan values s x hand h for' few closed cells =
       cells = λ e a d low is. elim (cases_eq a a0) [
         | inl same ↦
             let here = ap (λ b. get_or (set s.columns a0 hand) b d) same ∙ get_or-set_same s.columns a0 hand d place in
-            ap (λ (c : Hand). c.column.cells) here ∙ cells ∙ ap (values.column a0) (sym for'.same_number) ∙ ap (λ b. values.column b s.number) (sym same)
+            ap (λ (c : Hand). c.column.cells) here ∙ cells ∙ ap (values.column a0) (sym for'.same_number) ∙ ap
+            (λ b. values.column b s.number) (sym same)
         | inr ne ↦
             let there = get_or-set_other s.columns a0 a hand d ne in
-            ap (λ (c : Hand). c.column.cells) there ∙ h.cells fills a d (omega (arith, low, length-set s.columns a0 hand)) (sym (ap (λ (c : Hand). c.is_closed) there) ∙ is)
+            ap (λ (c : Hand). c.column.cells) there ∙ h.cells fills a d
+            (omega (arith, low, length-set s.columns a0 hand)) (sym (ap (λ (c : Hand). c.is_closed) there) ∙ is)
       ];
       result = λ e. absurd (let f = for'.filling in let g = ap (λ k. is_filling (kind_of k)) (sym f ∙ e) in cc);
     }
@@ -82,10 +87,12 @@ put_stands plan values s x hand h for' few closed cells =
 pub none_closed : (hs : List Hand) → AreSpare hs → marks_of hs ≡ replicate (length hs) false
 none_closed [] h = refl
 none_closed (c ∷ hs) h =
-    ap (λ b. b ∷ marks_of hs) (h 0 c (omega arith)) ∙ ap (λ bs. false ∷ bs) (none_closed hs (λ a d low. h (suc a) d (omega (arith, low))))
+    ap (λ b. b ∷ marks_of hs) (h 0 c (omega arith)) ∙ ap (λ bs. false ∷ bs)
+    (none_closed hs (λ a d low. h (suc a) d (omega (arith, low))))
 
 -- a full slot taken by a free work: the slot
-pub take_slot_stands : (plan : Plan) (values : Values) (s : View) (x : SlotState) (w : WorkView) → SlotStandsFor plan values s x → WorkStandsFor plan values w None → AcceptsTake (held_of s) w.plan
+pub take_slot_stands : (plan : Plan) (values : Values) (s : View) (x : SlotState) (w : WorkView)
+    → SlotStandsFor plan values s x → WorkStandsFor plan values w None → AcceptsTake (held_of s) w.plan
     → SlotStandsFor plan values (record s { kind = kinds.Working; columns = w.columns }) (record x { kind = Working })
 take_slot_stands plan values s x w h free to = record {
   plan_is = h.plan_is;
@@ -98,20 +105,30 @@ take_slot_stands plan values s x w h free to = record {
 }
 
 -- and the work, which computed
-pub take_work_stands : (plan : Plan) (values : Values) (s : View) (x : SlotState) (w v : WorkView) → SlotStandsFor plan values s x → WorkStandsFor plan values w None → AcceptsTake (held_of s) w.plan
-    → v ≡ record w { stage = Computed; number = s.number; columns = s.columns; out = v.out } → v.out.sums ≡ values.result s.number
+pub take_work_stands : (plan : Plan) (values : Values) (s : View) (x : SlotState) (w v : WorkView)
+    → SlotStandsFor plan values s x → WorkStandsFor plan values w None → AcceptsTake (held_of s) w.plan
+    → v ≡ record w { stage = Computed; number = s.number; columns = s.columns; out = v.out }
+    → v.out.sums ≡ values.result s.number
     → WorkStandsFor plan values v (Some x.number)
 take_work_stands plan values s x w v h free to is out =
     let columns = ap (λ (k : WorkView). k.columns) is in
-    let cells = subst (λ n. AreColumnsOf values n s.columns) h.number (h.cells (ap (λ k. is_filling (kind_of k)) to.filling)) in
+    let cells = subst (λ n. AreColumnsOf values n s.columns) h.number
+    (h.cells (ap (λ k. is_filling (kind_of k)) to.filling)) in
     record {
       plan_is = ap (λ (k : WorkView). k.plan) is ∙ free.plan_is;
       count = ap length columns ∙ h.count;
-      number = (ap (λ (k : WorkView). k.stage) is, ap (λ (k : WorkView). k.number) is ∙ h.number, subst (AreColumnsOf values x.number) (sym columns) cells, out ∙ ap values.result h.number);
+      number = (
+        ap (λ (k : WorkView). k.stage) is,
+        ap (λ (k : WorkView). k.number) is ∙ h.number,
+        subst
+            (AreColumnsOf values x.number) (sym columns) cells,
+        out ∙ ap values.result h.number,
+      );
     }
 
 -- a computed value stored: the slot
-pub store_slot_stands : (plan : Plan) (values : Values) (s : View) (x : SlotState) (w : WorkView) (n : ℕ) → SlotStandsFor plan values s x → WorkStandsFor plan values w (Some n) → AcceptsStore (held_of s) w.plan w.number
+pub store_slot_stands : (plan : Plan) (values : Values) (s : View) (x : SlotState) (w : WorkView) (n : ℕ)
+    → SlotStandsFor plan values s x → WorkStandsFor plan values w (Some n) → AcceptsStore (held_of s) w.plan w.number
     → SlotStandsFor plan values (record s { kind = kinds.Done; out = w.out }) (record x { kind = Done })
 store_slot_stands plan values s x w n h has to = record {
   plan_is = h.plan_is;
@@ -124,16 +141,20 @@ store_slot_stands plan values s x w n h has to = record {
 }
 
 -- and the work, which is free
-pub store_work_stands : (plan : Plan) (values : Values) (w v : WorkView) (o : Option ℕ) → WorkStandsFor plan values w o → v.plan ≡ w.plan → length v.columns ≡ length w.columns → v.stage ≡ Free → WorkStandsFor plan values v None
-store_work_stands plan values w v o h same count free = record { plan_is = same ∙ h.plan_is; count = count ∙ h.count; number = free }
+pub store_work_stands : (plan : Plan) (values : Values) (w v : WorkView) (o : Option ℕ) → WorkStandsFor plan values w o
+    → v.plan ≡ w.plan → length v.columns ≡ length w.columns → v.stage ≡ Free → WorkStandsFor plan values v None
+store_work_stands plan values w v o h same count free =
+    record { plan_is = same ∙ h.plan_is; count = count ∙ h.count; number = free }
 
 -- a value moved out: the slot waits for its next number
-pub send_stands : (plan : Plan) (values : Values) (s v : View) (x : SlotState) (number : ℕ) → SlotStandsFor plan values s x → AreSpare s.columns
+pub send_stands : (plan : Plan) (values : Values) (s v : View) (x : SlotState) (number : ℕ)
+    → SlotStandsFor plan values s x → AreSpare s.columns
     → v ≡ record s { kind = kinds.Filling; number = number + s.plan.slots; out = v.out }
     → SlotStandsFor plan values v (empty_slot plan (number + plan.slots))
 send_stands plan values s v x number h spare is =
     let next = number + s.plan.slots in
-    let made : SlotStandsFor plan values (record s { kind = kinds.Filling; number = next; out = v.out }) (empty_slot plan (number + plan.slots)) = record {
+    let made : SlotStandsFor plan values (record s { kind = kinds.Filling; number = next; out = v.out })
+    (empty_slot plan (number + plan.slots)) = record {
       plan_is = h.plan_is;
       count = h.count;
       number = ap (λ (p : Plan). number + p.slots) h.plan_is;

@@ -19,24 +19,32 @@ use Rattle.corr_core.specs.Standing.{Value, values_of, StandFor, Happens}
 abbrev pub place_for : RingView → ℕ → ℕ
 place_for r n = n % r.plan.slots
 
--- a closed hand put into the ring: it stands in the slot of its number, and a spare one is left; where the slot does not
--- wait for it, nothing changed
+-- a closed hand put into the ring: it stands in the slot of its number, and a spare one is left; where the slot does
+-- not wait for it, nothing changed
 abbrev pub PutsHand : RingView → Hand → RingView → Hand → Bool → Type 0
 PutsHand old hand now left true =
     AcceptsPut (held_of (slot_in old (place_for old hand.column.number))) hand.column
     × (now ≡ ring_with old (place_for old hand.column.number)
-    (record (slot_in old (place_for old hand.column.number)) { columns = slice_set (slot_in old (place_for old hand.column.number)).columns hand.column.antenna hand }))
+    (record (slot_in old (place_for old hand.column.number))
+    { columns = slice_set (slot_in old (place_for old hand.column.number)).columns hand.column.antenna hand }))
     × (left.is_closed ≡ false) × (left.column.plan ≡ hand.column.plan)
 PutsHand old hand now left false =
-    (AcceptsPut (held_of (slot_in old (place_for old hand.column.number))) hand.column → ⊥) × (now ≡ old) × (left ≡ hand)
+    (AcceptsPut (held_of (slot_in old (place_for old hand.column.number))) hand.column → ⊥) × (now ≡ old)
+    × (left ≡ hand)
 
 -- a slot of the ring taken by a free work, which computed the value of its columns; where the slot is not to be taken,
 -- nothing changed
 abbrev pub Computes : Value → RingView → ℕ → WorkView → RingView → WorkView → Bool → Type 0
 Computes value old slot work now left true =
     AcceptsTake (held_of (slot_in old (place_for old slot))) work.plan
-    × (now ≡ ring_with old (place_for old slot) (record (slot_in old (place_for old slot)) { kind = Working; columns = work.columns }))
-    × (left ≡ record work { stage = Computed; number = (slot_in old (place_for old slot)).number; columns = (slot_in old (place_for old slot)).columns; out = left.out })
+    × (now ≡ ring_with old (place_for old slot)
+    (record (slot_in old (place_for old slot)) { kind = Working; columns = work.columns }))
+    × (left ≡ record work {
+      stage = Computed;
+      number = (slot_in old (place_for old slot)).number;
+      columns = (slot_in old (place_for old slot)).columns;
+      out = left.out;
+    })
     × (left.out.sums ≡ value (cells_of (slot_in old (place_for old slot)).columns))
 Computes value old slot work now left false =
     (AcceptsTake (held_of (slot_in old (place_for old slot))) work.plan → ⊥) × (now ≡ old) × (left ≡ work)
@@ -63,7 +71,8 @@ pub record GaveColumn (old now : FeedState) (left : Hand) : Type 0 where
   pub given : now.columns.given ≡ old.columns.given + 1
   pub closed : left.is_closed ≡ true
   pub hand_plan : left.column.plan ≡ old.columns.plan
-  pub column : (l : List (List ℕ)) → StandsFor old l → left.column ≡ column_of old.columns.plan old.columns.antenna l old.columns.given
+  pub column : (l : List (List ℕ)) → StandsFor old l
+      → left.column ≡ column_of old.columns.plan old.columns.antenna l old.columns.given
 
 -- the feed of a stream changed, and nothing else
 pub record FeedChanged (old now : PartsView) (a : ℕ) (Does : FeedState → FeedState → Type 0) : Type 0 where
@@ -104,7 +113,8 @@ pub record StoresValue (old : RingView) (work : WorkView) (now : RingView) (left
   pub free : left.stage ≡ Free
   pub ring_plan : now.plan ≡ old.plan
   pub stored : AcceptsStore (held_of (slot_in old (place_for old work.number))) work.plan work.number
-      → now ≡ ring_with old (place_for old work.number) (record (slot_in old (place_for old work.number)) { kind = Done; out = work.out })
+      → now ≡ ring_with old (place_for old work.number)
+      (record (slot_in old (place_for old work.number)) { kind = Done; out = work.out })
 
 pub record ResultStored (old now : PartsView) (w : ℕ) : Type 0 where
   pub work : WorkView
@@ -118,14 +128,21 @@ pub record Released (old now : PartsView) : Type 0 where
   pub empty : AreSpare (slot_in old.ring (place_for old.ring old.sent)).columns
   pub parts : now ≡ record old {
     ring = ring_with old.ring (place_for old.ring old.sent)
-        (record (slot_in old.ring (place_for old.ring old.sent)) { kind = Filling; number = old.sent + (slot_in old.ring (place_for old.ring old.sent)).plan.slots; out = old.outgoing.out });
-    outgoing = record old.outgoing { number = old.sent; is_computed = true; out = (slot_in old.ring (place_for old.ring old.sent)).out };
+        (record (slot_in old.ring (place_for old.ring old.sent)) {
+          kind = Filling;
+          number = old.sent + (slot_in old.ring (place_for old.ring old.sent)).plan.slots;
+          out = old.outgoing.out;
+        });
+    outgoing = record old.outgoing
+        { number = old.sent; is_computed = true; out = (slot_in old.ring (place_for old.ring old.sent)).out };
     sent = old.sent + 1;
   }
 
 abbrev pub Releases : PartsView → PartsView → Bool → Type 0
 Releases old now true = Released old now
-Releases old now false = (AcceptsSend (held_of (slot_in old.ring (place_for old.ring old.sent))) old.outgoing.plan old.sent → ⊥) × (now ≡ old)
+Releases old now false =
+    (AcceptsSend (held_of (slot_in old.ring (place_for old.ring old.sent))) old.outgoing.plan old.sent → ⊥)
+    × (now ≡ old)
 
 -- the next value was moved out, for a state that the parts stand for
 pub record Sending (value : Value) (old now : PartsView) (state : State) : Type 0 where

@@ -44,7 +44,8 @@ IsInRange plan (core_events.Take w s) = (w < work_count plan) × (s < plan.slots
 IsInRange plan (core_events.Store w) = w < work_count plan
 IsInRange plan core_events.Send = Unit {0}
 
--- of the lists of an observation, a string that a stream takes is the next, and an end that it takes comes after the last
+-- of the lists of an observation, a string that a stream takes is
+-- the next, and an end that it takes comes after the last
 abbrev pub IsNextOf : (ℕ → List (List ℕ)) → PartsView → CoreEvent → Type 0
 IsNextOf list p (core_events.Packet a b) =
     takes_strings p a ≡ true → IsNext (list (feed_in p a).columns.antenna) (feed_in p a).report.taken b.now
@@ -57,29 +58,38 @@ abbrev pub stepped_of : Bool → Stepped
 stepped_of true = Moved
 stepped_of false = Idle
 
--- the event was enabled and no sink had failed: what the event appends was sent and counted, for all lists that the state
--- fits
-pub record StepMoves (value : Value) (strings : Strings) (plan : Plan) (failed : Bool) (state : State) (e : Event) (before now : Option (List (List ℕ))) (sent_before sent : Sent) : Type 0 where
+-- the event was enabled and no sink had failed: what the event appends was sent and counted, for all lists that the
+-- state fits
+pub record StepMoves (value : Value) (strings : Strings) (plan : Plan) (failed : Bool) (state : State) (e : Event)
+    (before now : Option (List (List ℕ))) (sent_before sent : Sent) : Type 0 where
   pub was : failed ≡ false
   pub can : enabled plan state e ≡ true
-  pub appended : (lists : Lists) → FitsLists plan state lists → SendsWhole before now sent_before sent (appends plan (heaps_by value strings plan lists) state e)
+  pub appended : (lists : Lists) → FitsLists plan state lists
+      → SendsWhole before now sent_before sent (appends plan (heaps_by value strings plan lists) state e)
 
 -- it was not enabled, or the sink had failed: nothing was sent
-pub record StepWaits (plan : Plan) (failed : Bool) (state : State) (e : Event) (before now : Option (List (List ℕ))) (sent_before sent : Sent) : Type 0 where
+pub record StepWaits (plan : Plan) (failed : Bool) (state : State) (e : Event) (before now : Option (List (List ℕ)))
+    (sent_before sent : Sent) : Type 0 where
   pub cannot : (failed ≡ true) ⊎ (enabled plan state e ≡ false)
   pub same : now ≡ before
   pub same_sent : sent ≡ sent_before
 
 -- it was enabled, and the sink failed: a front of what it appends was sent, and just that front was counted
-pub record StepFails (value : Value) (strings : Strings) (plan : Plan) (failed : Bool) (state : State) (e : Event) (before now : Option (List (List ℕ))) (sent_before sent : Sent) : Type 0 where
+pub record StepFails (value : Value) (strings : Strings) (plan : Plan) (failed : Bool) (state : State) (e : Event)
+    (before now : Option (List (List ℕ))) (sent_before sent : Sent) : Type 0 where
   pub was : failed ≡ false
   pub can : enabled plan state e ≡ true
-  pub front : (lists : Lists) → FitsLists plan state lists → SendsFront before now sent_before sent (appends plan (heaps_by value strings plan lists) state e)
+  pub front : (lists : Lists) → FitsLists plan state lists
+      → SendsFront before now sent_before sent (appends plan (heaps_by value strings plan lists) state e)
 
-abbrev pub StepGives : Value → Strings → Plan → Bool → State → Event → Option (List (List ℕ)) → Option (List (List ℕ)) → Sent → Sent → Stepped → Type 0
-StepGives value strings plan failed state e before now sent_before sent Moved = StepMoves value strings plan failed state e before now sent_before sent
-StepGives value strings plan failed state e before now sent_before sent Idle = StepWaits plan failed state e before now sent_before sent
-StepGives value strings plan failed state e before now sent_before sent Failed = StepFails value strings plan failed state e before now sent_before sent
+abbrev pub StepGives : Value → Strings → Plan → Bool → State → Event → Option (List (List ℕ)) → Option (List (List ℕ))
+    → Sent → Sent → Stepped → Type 0
+StepGives value strings plan failed state e before now sent_before sent Moved =
+    StepMoves value strings plan failed state e before now sent_before sent
+StepGives value strings plan failed state e before now sent_before sent Idle =
+    StepWaits plan failed state e before now sent_before sent
+StepGives value strings plan failed state e before now sent_before sent Failed =
+    StepFails value strings plan failed state e before now sent_before sent
 
 -- the state after a step, by its answer
 abbrev pub state_after : Plan → State → Event → Stepped → State
@@ -87,7 +97,8 @@ state_after plan state e Idle = state
 state_after plan state e other = effect plan state e
 
 -- one step, by its answer, for a state that the parts stand for: what was sent, and what they stand for afterwards
-pub record Steps (value : Value) (strings : Strings) (old now : PartsView) (failed : Bool) (state : State) (e : Event) (before after : Option (List (List ℕ))) (sent_before sent : Sent) (answer : Stepped) : Type 0 where
+pub record Steps (value : Value) (strings : Strings) (old now : PartsView) (failed : Bool) (state : State) (e : Event)
+    (before after : Option (List (List ℕ))) (sent_before sent : Sent) (answer : Stepped) : Type 0 where
   pub stands_for : StandFor value now (state_after old.plan state e answer)
   pub gives : StepGives value strings old.plan failed state e before after sent_before sent answer
 

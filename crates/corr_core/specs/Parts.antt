@@ -12,8 +12,8 @@ use Rattle.slot_ring.specs.Slots.{View, WorkView, OutgoingView, empty_slot, free
 use Rattle.slot_ring.specs.Rings.{RingView}
 use Rattle.corr_machine.specs.Machines.{work_count}
 
--- the parts of a core but for its back end and its emitter: a feed and a hand for each antenna, the ring, the works, the
--- value that goes out, and the number of the next one
+-- the parts of a core but for its back end and its emitter: a feed and a hand for each antenna, the ring, the works,
+-- the value that goes out, and the number of the next one
 pub record PartsView : Type 0 where
   pub plan : Plan
   pub feeds : List FeedState
@@ -74,8 +74,8 @@ slot_in r s = slice_index_or r.slots s (no_slot_of r.plan)
 abbrev pub ring_with : RingView → ℕ → View → RingView
 ring_with r s x = record r { slots = slice_set r.slots s x }
 
--- the parts are as many as the plan says, and of its plan, which is the one that an observation names where it does; and
--- no work has columns whose value it has not computed
+-- the parts are as many as the plan says, and of its plan, which is the one that an observation names where it does;
+-- and no work has columns whose value it has not computed
 pub record IsSoundParts (names : Bool) (named : Plan) (p : PartsView) : Type 0 where
   pub fits : Fits p.plan
   pub named_plan : names ≡ true → p.plan ≡ named

@@ -13,7 +13,8 @@ value_with value plan = λ columns. value plan columns 0 plan.heaps
 -- the heap of a number with these sums: before the first the head, after the last the stop
 abbrev pub sent_together : Plan → Strings → ℕ → List ℤ → List (List ℕ)
 sent_together plan strings n sums =
-    (if n == 0 then strings.head else []) ++ (strings.heap n sums ++ (if n + 1 == plan.accumulations then strings.stop else []))
+    (if n == 0 then strings.head else [])
+    ++ (strings.heap n sums ++ (if n + 1 == plan.accumulations then strings.stop else []))
 
 -- the heaps of the output of some lists, by what a back end and an emitter make of them
 abbrev pub heaps_by : Value → Strings → Plan → Lists → OutputHeaps

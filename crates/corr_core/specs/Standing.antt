@@ -47,7 +47,8 @@ AreColumnsOf values n hands = (a : ℕ) (d : Hand) → a < length hands
 
 -- one stream: its feed stands for the strings taken, gave the columns that were put and the one in the hand, which if
 -- closed is the next column to be put
-pub record StreamStandsFor (plan : Plan) (values : Values) (a : ℕ) (f : FeedState) (hand : Hand) (x : StreamState) : Type 0 where
+pub record StreamStandsFor (plan : Plan) (values : Values) (a : ℕ) (f : FeedState) (hand : Hand)
+    (x : StreamState) : Type 0 where
   pub antenna : f.columns.antenna ≡ a
   pub ended : is_some f.report.ended ≡ x.ended
   pub given : f.columns.given ≡ x.put + (if hand.is_closed then 1 else 0)
@@ -70,7 +71,8 @@ pub record SlotStandsFor (plan : Plan) (values : Values) (s : View) (x : SlotSta
 -- one work: free, or with a number, whose columns it has and whose value it has computed
 abbrev pub HasNumber : Values → WorkView → Option ℕ → Type 0
 HasNumber values w None = w.stage ≡ Free
-HasNumber values w (Some n) = (w.stage ≡ Computed) × (w.number ≡ n) × AreColumnsOf values n w.columns × (w.out.sums ≡ values.result n)
+HasNumber values w (Some n) =
+    (w.stage ≡ Computed) × (w.number ≡ n) × AreColumnsOf values n w.columns × (w.out.sums ≡ values.result n)
 
 pub record WorkStandsFor (plan : Plan) (values : Values) (w : WorkView) (o : Option ℕ) : Type 0 where
   pub plan_is : w.plan ≡ plan
@@ -86,7 +88,8 @@ pub record PartsStandWith (values : Values) (p : PartsView) (state : State) : Ty
   pub works_count : length p.works ≡ work_count p.plan
   pub slots_count : length p.ring.slots ≡ p.plan.slots
   pub ring_plan : p.ring.plan ≡ p.plan
-  pub stream : (a : ℕ) → a < p.plan.antennas → StreamStandsFor p.plan values a (feed_in p a) (hand_in p a) (stream_at state a)
+  pub stream : (a : ℕ) → a < p.plan.antennas
+      → StreamStandsFor p.plan values a (feed_in p a) (hand_in p a) (stream_at state a)
   pub slot : (s : ℕ) → s < p.plan.slots → SlotStandsFor p.plan values (slot_in p.ring s) (slot_at state s)
   pub work : (w : ℕ) → w < work_count p.plan → WorkStandsFor p.plan values (work_in p w) (work_at state w)
   pub sent_is : p.sent ≡ state.sent
@@ -102,8 +105,8 @@ pub record StandFor (value : Value) (p : PartsView) (state : State) : Type 0 whe
   pub plans : (a : ℕ) → a < p.plan.antennas → (feed_in p a).columns.plan ≡ p.plan
   pub feeds : (a : ℕ) → a < p.plan.antennas → StandsFor (feed_in p a) (stream_at state a).strings
 
--- what a call of an event does by its answer: the event happens exactly where it is enabled, and else the parts stand for
--- the same state
+-- what a call of an event does by its answer: the event happens exactly where it is enabled, and else the parts stand
+-- for the same state
 abbrev pub Happens : Value → Plan → PartsView → State → Event → Bool → Type 0
 Happens value plan now state e true = (enabled plan state e ≡ true) × StandFor value now (effect plan state e)
 Happens value plan now state e false = (enabled plan state e ≡ false) × StandFor value now state

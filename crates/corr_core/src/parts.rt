@@ -32,10 +32,26 @@ impl<O: Observation, B: Backend> Model for Parts<O, B> {
 
     ghost Value = { PartsView };
 
-    ghost view = { λ p. record { plan = p.plan; feeds = p.feeds.items; hands = p.hands.items; ring = p.ring; works = p.works.items; outgoing = p.outgoing; sent = p.sent } };
+    ghost view = { λ p. record {
+      plan = p.plan;
+      feeds = p.feeds.items;
+      hands = p.hands.items;
+      ring = p.ring;
+      works = p.works.items;
+      outgoing = p.outgoing;
+      sent = p.sent;
+    } };
 
     ghost invariant = { λ p. IsSoundParts O.names O.plan
-        (record { plan = p.plan; feeds = p.feeds.items; hands = p.hands.items; ring = p.ring; works = p.works.items; outgoing = p.outgoing; sent = p.sent }) };
+        (record {
+          plan = p.plan;
+          feeds = p.feeds.items;
+          hands = p.hands.items;
+          ring = p.ring;
+          works = p.works.items;
+          outgoing = p.outgoing;
+          sent = p.sent;
+        }) };
 }
 
 impl<O: Observation, B: Backend> Parts<O, B> {

@@ -19,12 +19,14 @@ use Rattle.corr_machine.proofs.Floors.{floor_within}
 
 -- a stream that is ready takes its next string, or its end
 ready_moves : (plan : Plan) (lists : Lists) (state : State) (a : ℕ) → FitsLists plan state lists → a < plan.antennas
-    → (stream_at state a).ended ≡ false → (stream_at state a).put ≡ stream_floor plan a (stream_at state a) → CanMove plan lists state
+    → (stream_at state a).ended ≡ false → (stream_at state a).put ≡ stream_floor plan a (stream_at state a)
+    → CanMove plan lists state
 ready_moves plan lists state a fits few still all_put =
     let x = stream_at state a in
     let l = taken plan (lists a) in
     let k = length x.strings in
-    let ready = and_from (not x.ended) (eqb x.put (stream_floor plan a x)) (not_from_false x.ended still) (eq-eqb x.put (stream_floor plan a x) all_put) in
+    let ready = and_from (not x.ended) (eqb x.put (stream_floor plan a x)) (not_from_false x.ended still)
+    (eq-eqb x.put (stream_floor plan a x) all_put) in
     let can = and_from (ltb a plan.antennas) (is_ready plan a x) (lt-ltb a plan.antennas few) ready in
     elim (cases_lt k (length l)) [
       | inl more ↦ record { event = Packet a (get_or l k []); next = slice_get-get_or l k [] more; can = can }
@@ -32,7 +34,8 @@ ready_moves plan lists state a fits few still all_put =
     ]
 
 -- the slot for a number that is now in the ring has that number
-number_in : (plan : Plan) (state : State) (n : ℕ) → 0 < plan.slots → IsProper plan state → state.sent ≤ n → n < state.sent + plan.slots → (slot_for plan state n).number ≡ n
+number_in : (plan : Plan) (state : State) (n : ℕ) → 0 < plan.slots → IsProper plan state → state.sent ≤ n
+    → n < state.sent + plan.slots → (slot_for plan state n).number ≡ n
 number_in plan state n some h least most =
     let at_n = h.slot (n % plan.slots) (mod_below n plan.slots some) in
     let m = (slot_for plan state n).number in
@@ -42,8 +45,10 @@ number_in plan state n some h least most =
     ]
 
 -- the stream that is furthest behind can put its next closed column
-put_moves : (plan : Plan) (lists : Lists) (state : State) (a : ℕ) → 0 < plan.slots → IsProper plan state → a < plan.antennas
-    → (stream_at state a).put < stream_floor plan a (stream_at state a) → (stream_at state a).put < state.sent + plan.slots → CanMove plan lists state
+put_moves : (plan : Plan) (lists : Lists) (state : State) (a : ℕ) → 0 < plan.slots → IsProper plan state
+    → a < plan.antennas
+    → (stream_at state a).put < stream_floor plan a (stream_at state a)
+    → (stream_at state a).put < state.sent + plan.slots → CanMove plan lists state
 put_moves plan lists state a some h few closed room =
     let x = stream_at state a in
     let n = x.put in
@@ -54,7 +59,9 @@ put_moves plan lists state a some h few closed room =
     let absent : stands_in z a ≡ false = h.stands s a low few ∙ le-ltb z.number n (omega (arith, number)) in
     let waits : is_filling z.kind ≡ true = elim (cases_Bool (is_filling z.kind)) [
       | inl yes' ↦ yes'
-      | inr other ↦ absurd (let there = list_all_get z.columns a (omega (arith, (h.slot s low).columns)) ((h.slot s low).full other) in cc)
+      | inr other ↦ absurd
+          (let there = list_all_get z.columns a (omega (arith, (h.slot s low).columns))
+          ((h.slot s low).full other) in cc)
     ] in
     let fill = and_from (eqb z.number n) (is_filling z.kind) (eq-eqb z.number n number) waits in
     record {
@@ -78,7 +85,8 @@ holds_none n None h = refl
 holds_none n (Some m) h = absurd cc
 
 -- where each stream has put the next number to be sent, a work stores or takes, or the result is sent
-send_moves : (plan : Plan) (lists : Lists) (state : State) → 0 < plan.slots → IsProper plan state → ((a : ℕ) → a < plan.antennas → state.sent < (stream_at state a).put) → CanMove plan lists state
+send_moves : (plan : Plan) (lists : Lists) (state : State) → 0 < plan.slots → IsProper plan state
+    → ((a : ℕ) → a < plan.antennas → state.sent < (stream_at state a).put) → CanMove plan lists state
 send_moves plan lists state some h all_put =
     let n = state.sent in
     let s = n % plan.slots in
@@ -93,28 +101,38 @@ send_moves plan lists state some h all_put =
       | inr taken' ↦ record {
         event = Store taken'.0;
         next = tt;
-        can = and_from (ltb taken'.0 (work_count plan)) (is_some (work_at state taken'.0)) (lt-ltb taken'.0 (work_count plan) taken'.1) (not_free (work_at state taken'.0) taken'.2);
+        can = and_from (ltb taken'.0 (work_count plan)) (is_some (work_at state taken'.0))
+            (lt-ltb taken'.0 (work_count plan) taken'.1) (not_free (work_at state taken'.0) taken'.2);
       }
       | inl free ↦ elim (is_one_kind z.kind) [
         | inl waits ↦ record {
           event = Take 0 s;
           next = tt;
           can = and_from (ltb 0 (work_count plan)) _ (lt-ltb 0 (work_count plan) one)
-              (and_from (ltb s plan.slots) _ (lt-ltb s plan.slots low) (and_from (not (is_some (work_at state 0))) _ (free 0 one) (and_from (is_filling z.kind) (is_full z) waits full)));
+              (and_from (ltb s plan.slots) _ (lt-ltb s plan.slots low)
+              (and_from (not (is_some (work_at state 0))) _ (free 0 one)
+              (and_from (is_filling z.kind) (is_full z) waits full)));
         }
         | inr more ↦ elim more [
           | inl working ↦
               let held = h.held n in
-              let none = count_zero (holds n) state.works None (λ w there. holds_none n (work_at state w) (free w (omega (arith, h.works)))) in
-              let on = ap {B = ℕ} (λ b. cond b 1 0) (and_from (eqb z.number n) (is_working z.kind) (eq-eqb z.number n number) working) in
+              let none = count_zero (holds n) state.works None
+              (λ w there. holds_none n (work_at state w) (free w (omega (arith, h.works)))) in
+              let on = ap {B = ℕ} (λ b. cond b 1 0)
+              (and_from (eqb z.number n) (is_working z.kind) (eq-eqb z.number n number) working) in
               absurd (omega (arith, held, none, on))
-          | inr result ↦ record { event = Send; next = tt; can = and_from (eqb z.number n) (is_done z.kind) (eq-eqb z.number n number) result }
+          | inr result ↦ record {
+            event = Send;
+            next = tt;
+            can = and_from (eqb z.number n) (is_done z.kind) (eq-eqb z.number n number) result;
+          }
         ]
       ]
     ]
 
 -- where the results were all sent, a stream takes a string or its end, or all have ended
-last_moves : (plan : Plan) (lists : Lists) (state : State) → IsProper plan state → FitsLists plan state lists → state.sent ≡ plan.accumulations → CanMove plan lists state ⊎ IsOver plan state
+last_moves : (plan : Plan) (lists : Lists) (state : State) → IsProper plan state → FitsLists plan state lists
+    → state.sent ≡ plan.accumulations → CanMove plan lists state ⊎ IsOver plan state
 last_moves plan lists state h fits sent =
     elim (all_or_one (λ a. (stream_at state a).ended) plan.antennas) [
       | inl all ↦ inr (record { sent = sent; ended = all })
@@ -123,14 +141,16 @@ last_moves plan lists state h fits sent =
           let x = stream_at state a in
           let was = h.stream a found.1 in
           let most = floor_within plan a x.strings x.ended in
-          inl (ready_moves plan lists state a fits found.1 found.2 (omega (arith, was.closed, was.not_behind, most, sent)))
+          inl (ready_moves plan lists state a fits found.1 found.2
+          (omega (arith, was.closed, was.not_behind, most, sent)))
     ]
 
 at_end : (plan : Plan) (a : ℕ) (x : StreamState) → x.ended ≡ true → stream_floor plan a x ≡ plan.accumulations
 at_end plan a x over = ap (floor plan a x.strings) over
 
 -- some next event is enabled, or the run is over: by the stream that is furthest behind
-pub moves_or_over : (plan : Plan) (lists : Lists) (state : State) → 0 < plan.slots → 0 < plan.antennas → IsProper plan state → FitsLists plan state lists → CanMove plan lists state ⊎ IsOver plan state
+pub moves_or_over : (plan : Plan) (lists : Lists) (state : State) → 0 < plan.slots → 0 < plan.antennas
+    → IsProper plan state → FitsLists plan state lists → CanMove plan lists state ⊎ IsOver plan state
 moves_or_over plan lists state some any h fits =
     let behind = least_place (λ a. (stream_at state a).put) plan.antennas any in
     let a = behind.0 in
@@ -151,26 +171,34 @@ moves_or_over plan lists state some any h fits =
     ]
 
 -- a stream's part where the run is over
-stream_whole : (plan : Plan) (state : State) (lists : Lists) (a : ℕ) → IsProper plan state → FitsLists plan state lists → IsOver plan state → a < plan.antennas → stream_full plan (lists a) ≤ stream_done plan (stream_at state a)
+stream_whole : (plan : Plan) (state : State) (lists : Lists) (a : ℕ) → IsProper plan state → FitsLists plan state lists
+    → IsOver plan state → a < plan.antennas → stream_full plan (lists a) ≤ stream_done plan (stream_at state a)
 stream_whole plan state lists a h fits over few =
     let x = stream_at state a in
     let ended = over.ended a few in
     let all = (fits a few).all ended in
     let long = ap length all in
     let same = ap (λ k. ending plan k) all ∙ ending_of_taken plan (lists a) in
-    let bit = ap {B = ℕ} (λ b. cond (b && is_none (ending plan x.strings)) 1 0) ended ∙ ap {B = ℕ} (λ o. cond (is_none o) 1 0) same in
+    let bit = ap {B = ℕ} (λ b. cond (b && is_none (ending plan x.strings)) 1 0) ended ∙ ap {B = ℕ}
+    (λ o. cond (is_none o) 1 0) same in
     omega (arith, long, bit, over.sent, (h.stream a few).not_behind)
 
 -- where the run is over the measure is that of a whole run
-pub over_is_full : (plan : Plan) (state : State) (lists : Lists) → IsProper plan state → FitsLists plan state lists → IsOver plan state → full plan lists ≤ done plan state
+pub over_is_full : (plan : Plan) (state : State) (lists : Lists) → IsProper plan state → FitsLists plan state lists
+    → IsOver plan state → full plan lists ≤ done plan state
 over_is_full plan state lists h fits over =
     let streams = places_sum (stream_done plan) (λ a. stream_full plan (lists a)) state.streams new_stream 0
-    (λ a low. subst (λ k. stream_full plan (lists k) ≤ stream_done plan (stream_at state a)) (let e : a ≡ 0 + a = omega arith in e) (stream_whole plan state lists a h fits over (omega (arith, h.stream_count)))) in
-    let all = subst (λ n. sum_by (λ a. stream_full plan (lists a)) (numbers 0 n) ≤ sum_by (stream_done plan) state.streams) h.stream_count streams in
+    (λ a low. subst (λ k. stream_full plan (lists k) ≤ stream_done plan (stream_at state a))
+    (let e : a ≡ 0 + a = omega arith in e)
+    (stream_whole plan state lists a h fits over (omega (arith, h.stream_count)))) in
+    let all = subst (λ n.
+    sum_by (λ a. stream_full plan (lists a)) (numbers 0 n)
+    ≤ sum_by (stream_done plan) state.streams) h.stream_count streams in
     omega (arith, all, over.sent)
 
 -- short of a whole run some next event is enabled
-pub short_moves : (plan : Plan) (lists : Lists) (state : State) → 0 < plan.slots → 0 < plan.antennas → IsProper plan state → FitsLists plan state lists → done plan state < full plan lists → CanMove plan lists state
+pub short_moves : (plan : Plan) (lists : Lists) (state : State) → 0 < plan.slots → 0 < plan.antennas
+    → IsProper plan state → FitsLists plan state lists → done plan state < full plan lists → CanMove plan lists state
 short_moves plan lists state some any h fits short =
     elim (moves_or_over plan lists state some any h fits) [
       | inl can ↦ can
@@ -178,7 +206,8 @@ short_moves plan lists state some any h fits short =
     ]
 
 -- where no next event is enabled, all results were sent
-pub stuck_is_over : (plan : Plan) (lists : Lists) (state : State) → 0 < plan.slots → 0 < plan.antennas → IsProper plan state → FitsLists plan state lists
+pub stuck_is_over : (plan : Plan) (lists : Lists) (state : State) → 0 < plan.slots → 0 < plan.antennas
+    → IsProper plan state → FitsLists plan state lists
     → ((e : Event) → IsNext plan lists state e → enabled plan state e ≡ false) → IsOver plan state
 stuck_is_over plan lists state some any h fits none =
     elim (moves_or_over plan lists state some any h fits) [

@@ -20,16 +20,21 @@ use Rattle.corr_machine.proofs.Progress.{open_strings}
 use Rattle.corr_machine.proofs.Sending.{sent_within}
 
 -- at most n slots have a number below sent + n
-numbers_below : (plan : Plan) (state : State) → IsProper plan state → (n : ℕ) → count_by (λ x. ltb x.number (state.sent + n)) state.slots ≤ n
+numbers_below : (plan : Plan) (state : State) → IsProper plan state → (n : ℕ)
+    → count_by (λ x. ltb x.number (state.sent + n)) state.slots ≤ n
 numbers_below plan state h zero =
     let none = count_zero (λ x. ltb x.number (state.sent + 0)) state.slots no_slot
-    (λ i low. let at_i = h.slot i (omega (arith, h.slot_count)) in le-ltb (slot_at state i).number (state.sent + 0) (omega (arith, at_i.not_sent))) in
+    (λ i low. let at_i =
+    h.slot i (omega (arith, h.slot_count)) in le-ltb (slot_at state i).number (state.sent + 0)
+    (omega (arith, at_i.not_sent))) in
     omega (arith, none)
 numbers_below plan state h (suc n) =
     let next : state.sent + suc n ≡ state.sent + n + 1 = omega arith in
-    let sum = ap (λ m. count_by (λ (x : SlotState). ltb x.number m) state.slots) next ∙ count_next (λ (x : SlotState). x.number) (state.sent + n) state.slots in
+    let sum = ap (λ m. count_by (λ (x : SlotState). ltb x.number m) state.slots) next ∙ count_next
+    (λ (x : SlotState). x.number) (state.sent + n) state.slots in
     let one = count_one (λ x. eqb x.number (state.sent + n)) state.slots no_slot ((state.sent + n) % plan.slots)
-    (λ i low e. sym (h.slot i (omega (arith, h.slot_count))).place ∙ ap (λ m. m % plan.slots) (eqb-true (slot_at state i).number (state.sent + n) e)) in
+    (λ i low e. sym (h.slot i (omega (arith, h.slot_count))).place ∙ ap (λ m. m % plan.slots)
+    (eqb-true (slot_at state i).number (state.sent + n) e)) in
     omega (arith, sum, one, numbers_below plan state h n)
 
 kind_small : (k : Kind) → kind_done k ≤ 2
@@ -57,7 +62,8 @@ slot_small plan state s some h low =
           let more = full_put plan state s 0 h low some ((h.slot s low).full not_waits) in
           let closed = (h.stream 0 some).closed in
           let most = floor_within plan 0 (stream_at state 0).strings (stream_at state 0).ended in
-          let one = ap {B = ℕ} (λ b. cond b 1 0) (lt-ltb x.number plan.accumulations (omega (arith, more, closed, most))) in
+          let one = ap {B = ℕ} (λ b. cond b 1 0)
+          (lt-ltb x.number plan.accumulations (omega (arith, more, closed, most))) in
           omega (arith, kind_small x.kind, one)
     ]
 
@@ -66,15 +72,19 @@ sum_twice f [] = refl
 sum_twice f (x ∷ xs) = omega (arith, sum_twice f xs, sum_by-cons (λ y. f y + f y) x xs, sum_by-cons f x xs)
 
 -- the slots' part of the measure: at most two for each number that is not sent
-pub slots_small : (plan : Plan) (state : State) → 0 < plan.antennas → IsProper plan state → state.sent + state.sent + sum_by slot_done state.slots ≤ plan.accumulations + plan.accumulations
+pub slots_small : (plan : Plan) (state : State) → 0 < plan.antennas → IsProper plan state
+    → state.sent + state.sent + sum_by slot_done state.slots ≤ plan.accumulations + plan.accumulations
 slots_small plan state some h =
     let most = sent_within plan state some h in
-    let each = sum_each slot_done (λ x. has_number plan x + has_number plan x) state.slots no_slot (λ i low. slot_small plan state i some h (omega (arith, h.slot_count))) in
+    let each = sum_each slot_done (λ x. has_number plan x + has_number plan x) state.slots no_slot
+    (λ i low. slot_small plan state i some h (omega (arith, h.slot_count))) in
     let split : state.sent + (plan.accumulations - state.sent) ≡ plan.accumulations = omega arith in
-    let few = subst (λ m. count_by (λ (x : SlotState). ltb x.number m) state.slots ≤ plan.accumulations - state.sent) split (numbers_below plan state h (plan.accumulations - state.sent)) in
+    let few = subst (λ m. count_by (λ (x : SlotState). ltb x.number m) state.slots ≤ plan.accumulations - state.sent)
+    split (numbers_below plan state h (plan.accumulations - state.sent)) in
     omega (arith, most, each, few, sum_twice (has_number plan) state.slots)
 
-ended_part : (plan : Plan) (x : StreamState) (l : List (List ℕ)) → StreamFits plan x l → ◌≤◌ (cond (x.ended && is_none (ending plan x.strings)) 1 0) (cond (is_none (ending plan l)) 1 0)
+ended_part : (plan : Plan) (x : StreamState) (l : List (List ℕ)) → StreamFits plan x l
+    → ◌≤◌ (cond (x.ended && is_none (ending plan x.strings)) 1 0) (cond (is_none (ending plan l)) 1 0)
 ended_part plan x l h =
     elim (cases_Bool x.ended) [
       | inl over ↦
@@ -82,40 +92,59 @@ ended_part plan x l h =
           let one = ap {B = ℕ} (λ b. cond (b && is_none (ending plan x.strings)) 1 0) over in
           let two = ap {B = ℕ} (λ o. cond (is_none o) 1 0) same in
           omega (arith, one, two)
-      | inr still ↦ let none = ap {B = ℕ} (λ b. cond (b && is_none (ending plan x.strings)) 1 0) still in omega (arith, none)
+      | inr still ↦ let none =
+          ap {B = ℕ} (λ b. cond (b && is_none (ending plan x.strings)) 1 0) still in omega (arith, none)
     ]
 
-pub strings_within : (plan : Plan) (x : StreamState) (l : List (List ℕ)) → StreamFits plan x l → length x.strings ≤ length (taken plan l)
-strings_within plan x l h = let short = ap length h.first in omega (arith, short, length-take (length x.strings) (taken plan l))
+pub strings_within : (plan : Plan) (x : StreamState) (l : List (List ℕ)) → StreamFits plan x l
+    → length x.strings ≤ length (taken plan l)
+strings_within plan x l h =
+    let short = ap length h.first in omega (arith, short, length-take (length x.strings) (taken plan l))
 
 -- a stream's part of the measure
-stream_small : (plan : Plan) (state : State) (lists : Lists) (a : ℕ) → IsProper plan state → FitsLists plan state lists → a < plan.antennas → stream_done plan (stream_at state a) ≤ stream_full plan (lists a)
+stream_small : (plan : Plan) (state : State) (lists : Lists) (a : ℕ) → IsProper plan state → FitsLists plan state lists
+    → a < plan.antennas → stream_done plan (stream_at state a) ≤ stream_full plan (lists a)
 stream_small plan state lists a h fits few =
     let x = stream_at state a in
-    omega (arith, strings_within plan x (lists a) (fits a few), ended_part plan x (lists a) (fits a few), (h.stream a few).closed, floor_within plan a x.strings x.ended)
+    omega (
+      arith,
+      strings_within plan x (lists a) (fits a few),
+      ended_part plan x (lists a) (fits a few),
+      (h.stream a few).closed,
+      floor_within plan a x.strings x.ended,
+    )
 
 -- the measure is at most that of a whole run
-pub done_within : (plan : Plan) (state : State) (lists : Lists) → 0 < plan.antennas → IsProper plan state → FitsLists plan state lists → done plan state ≤ full plan lists
+pub done_within : (plan : Plan) (state : State) (lists : Lists) → 0 < plan.antennas → IsProper plan state
+    → FitsLists plan state lists → done plan state ≤ full plan lists
 done_within plan state lists some h fits =
     let streams = sum_places (stream_done plan) (λ a. stream_full plan (lists a)) state.streams new_stream 0
-    (λ a low. subst (λ k. stream_done plan (stream_at state a) ≤ stream_full plan (lists k)) (let e : a ≡ 0 + a = omega arith in e) (stream_small plan state lists a h fits (omega (arith, h.stream_count)))) in
-    let all = subst (λ n. sum_by (stream_done plan) state.streams ≤ sum_by (λ a. stream_full plan (lists a)) (numbers 0 n)) h.stream_count streams in
+    (λ a low. subst (λ k. stream_done plan (stream_at state a) ≤ stream_full plan (lists k))
+    (let e : a ≡ 0 + a = omega arith in e)
+    (stream_small plan state lists a h fits (omega (arith, h.stream_count)))) in
+    let all = subst (λ n.
+    sum_by (stream_done plan) state.streams
+    ≤ sum_by (λ a. stream_full plan (lists a)) (numbers 0 n)) h.stream_count streams in
     omega (arith, all, slots_small plan state some h, sent_within plan state some h)
 
 -- strings that end by themselves are all that count
-ended_all : (plan : Plan) (k l : List (List ℕ)) (n : ℕ) → taken plan k ≡ k → is_some (ending plan k) ≡ true → k ≡ take n (taken plan l) → k ≡ taken plan l
+ended_all : (plan : Plan) (k l : List (List ℕ)) (n : ℕ) → taken plan k ≡ k → is_some (ending plan k) ≡ true
+    → k ≡ take n (taken plan l) → k ≡ taken plan l
 ended_all plan k l n counts over front =
     let rest = drop n (taken plan l) in
     let whole : k ++ rest ≡ taken plan l = ap (λ s. s ++ rest) front ∙ take-append-drop n (taken plan l) in
     sym counts ∙ sym (taken_past plan k rest over) ∙ ap (taken plan) whole ∙ taken_of_taken plan l
 
 -- the stream with the next string fits
-fits_string : (plan : Plan) (x : StreamState) (l : List (List ℕ)) (b : List ℕ) → StreamFits plan x l → ending plan x.strings ≡ None → slice_get (taken plan l) (length x.strings) ≡ Some b → StreamFits plan (with_string plan b x) l
+fits_string : (plan : Plan) (x : StreamState) (l : List (List ℕ)) (b : List ℕ) → StreamFits plan x l
+    → ending plan x.strings ≡ None → slice_get (taken plan l) (length x.strings) ≡ Some b
+    → StreamFits plan (with_string plan b x) l
 fits_string plan x l b h still next =
     let k = length x.strings in
     let low = slice_get_within (taken plan l) k b next in
     let grown : x.strings ++ b ∷ [] ≡ take (k + 1) (taken plan l) =
-    ap (λ s. s ++ b ∷ []) h.first ∙ ap (λ c. take k (taken plan l) ++ c ∷ []) (sym (get_or_from_slice_get (taken plan l) k b b next)) ∙ sym (take_more (taken plan l) k b low) in
+    ap (λ s. s ++ b ∷ []) h.first ∙ ap (λ c. take k (taken plan l) ++ c ∷ [])
+    (sym (get_or_from_slice_get (taken plan l) k b b next)) ∙ sym (take_more (taken plan l) k b low) in
     record {
       first = grown ∙ ap (λ n. take n (taken plan l)) (sym (length_push x.strings b));
       all = λ over. ended_all plan (x.strings ++ b ∷ []) l (k + 1) (taken_next plan x.strings b still) over grown;
@@ -126,23 +155,29 @@ none_from None h = refl
 none_from (Some x) h = absurd cc
 
 -- a next event keeps the lists that a state fits
-pub event_fits : (plan : Plan) (state : State) (lists : Lists) (e : Event) → IsProper plan state → FitsLists plan state lists → IsNext plan lists state e → enabled plan state e ≡ true → FitsLists plan (effect plan state e) lists
+pub event_fits : (plan : Plan) (state : State) (lists : Lists) (e : Event) → IsProper plan state
+    → FitsLists plan state lists → IsNext plan lists state e → enabled plan state e ≡ true
+    → FitsLists plan (effect plan state e) lists
 event_fits plan state lists (Packet a b) h fits next on =
     let x = stream_at state a in
     let parts = and_parts (ltb a plan.antennas) (is_ready plan a x) on in
     let few = ltb-true a plan.antennas parts.0 in
-    let still = none_from (ending plan x.strings) (open_strings plan state a h few (ready_parts plan a x parts.1).not_ended) in
-    each_stream state a (with_string plan b x) (λ c y. c < plan.antennas → StreamFits plan y (lists c)) (omega (arith, h.stream_count))
+    let still = none_from (ending plan x.strings)
+    (open_strings plan state a h few (ready_parts plan a x parts.1).not_ended) in
+    each_stream state a (with_string plan b x) (λ c y. c < plan.antennas → StreamFits plan y (lists c))
+    (omega (arith, h.stream_count))
     (λ low. fits_string plan x (lists a) b (fits a low) still next) (λ c ne. fits c)
 event_fits plan state lists (End a) h fits next on =
     let x = stream_at state a in
     let few = ltb-true a plan.antennas (and_parts (ltb a plan.antennas) (is_ready plan a x) on).0 in
-    each_stream state a (record x { ended = true }) (λ c y. c < plan.antennas → StreamFits plan y (lists c)) (omega (arith, h.stream_count))
+    each_stream state a (record x { ended = true }) (λ c y. c < plan.antennas → StreamFits plan y (lists c))
+    (omega (arith, h.stream_count))
     (λ low. record { first = (fits a low).first; all = λ over. next }) (λ c ne. fits c)
 event_fits plan state lists (Put a) h fits next on =
     let x = stream_at state a in
     let few = ltb-true a plan.antennas (and_parts (ltb a plan.antennas) _ on).0 in
-    each_stream state a (record x { put = x.put + 1 }) (λ c y. c < plan.antennas → StreamFits plan y (lists c)) (omega (arith, h.stream_count))
+    each_stream state a (record x { put = x.put + 1 }) (λ c y. c < plan.antennas → StreamFits plan y (lists c))
+    (omega (arith, h.stream_count))
     (λ low. record { first = (fits a low).first; all = (fits a low).all }) (λ c ne. fits c)
 event_fits plan state lists (Take w s) h fits next on = fits
 event_fits plan state lists (Store w) h fits next on = fits

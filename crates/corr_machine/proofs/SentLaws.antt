@@ -25,17 +25,21 @@ stream_before plan state lists a y within back fits c low =
     elim (cases_eq c a) [
       | inl e ↦
           let here = subst (λ k. k < plan.antennas) e low in
-          let now = subst (λ z. StreamFits plan z (lists a)) (get_or-set_same state.streams a y new_stream within) (fits a here) in
+          let now = subst (λ z. StreamFits plan z (lists a)) (get_or-set_same state.streams a y new_stream within)
+          (fits a here) in
           subst (λ k. StreamFits plan (stream_at state k) (lists k)) (sym e) (back now)
-      | inr ne ↦ subst (λ z. StreamFits plan z (lists c)) (get_or-set_other state.streams a c y new_stream ne) (fits c low)
+      | inr ne ↦ subst (λ z. StreamFits plan z (lists c))
+          (get_or-set_other state.streams a c y new_stream ne) (fits c low)
     ]
 
 -- a stream that has not ended fits what it fits with a string more
-string_before : (plan : Plan) (x : StreamState) (l : List (List ℕ)) (b : List ℕ) → x.ended ≡ false → StreamFits plan (with_string plan b x) l → StreamFits plan x l
+string_before : (plan : Plan) (x : StreamState) (l : List (List ℕ)) (b : List ℕ) → x.ended ≡ false
+    → StreamFits plan (with_string plan b x) l → StreamFits plan x l
 string_before plan x l b still h =
     let n = length (x.strings ++ b ∷ []) in
     let rest = drop n (taken plan l) in
-    let whole : (x.strings ++ b ∷ []) ++ rest ≡ taken plan l = ap (λ s. s ++ rest) h.first ∙ take-append-drop n (taken plan l) in
+    let whole : (x.strings ++ b ∷ []) ++ rest ≡ taken plan l =
+    ap (λ s. s ++ rest) h.first ∙ take-append-drop n (taken plan l) in
     let front : x.strings ++ (b ∷ [] ++ rest) ≡ taken plan l = sym (append_assoc x.strings (b ∷ []) rest) ∙ whole in
     record {
       first = sym (take-append_seam x.strings (b ∷ [] ++ rest)) ∙ ap (take (length x.strings)) front;
@@ -43,7 +47,8 @@ string_before plan x l b still h =
     }
 
 -- an event that is enabled leaves the lists that the state fitted
-effect_before : (plan : Plan) (state : State) (lists : Lists) (e : Event) → IsProper plan state → enabled plan state e ≡ true → FitsLists plan (effect plan state e) lists → FitsLists plan state lists
+effect_before : (plan : Plan) (state : State) (lists : Lists) (e : Event) → IsProper plan state
+    → enabled plan state e ≡ true → FitsLists plan (effect plan state e) lists → FitsLists plan state lists
 effect_before plan state lists (Packet a b) h on fits =
     let x = stream_at state a in
     let parts = and_parts (ltb a plan.antennas) (is_ready plan a x) on in
@@ -66,23 +71,29 @@ effect_before plan state lists (Take w s) h on fits = fits
 effect_before plan state lists (Store w) h on fits = fits
 effect_before plan state lists Send h on fits = fits
 
-by_choice : (plan : Plan) (state : State) (lists : Lists) (e : Event) (on : Bool) → (on ≡ true → FitsLists plan (effect plan state e) lists → FitsLists plan state lists)
+by_choice : (plan : Plan) (state : State) (lists : Lists) (e : Event) (on : Bool)
+    → (on ≡ true → FitsLists plan (effect plan state e) lists → FitsLists plan state lists)
     → FitsLists plan (cond on (effect plan state e) state) lists → FitsLists plan state lists
 by_choice plan state lists e true back fits = back refl fits
 by_choice plan state lists e false back fits = fits
 
 -- a state fits the lists that it fits after an event
-pub step_before : (plan : Plan) (state : State) (lists : Lists) (e : Event) → IsProper plan state → FitsLists plan (step plan state e) lists → FitsLists plan state lists
-step_before plan state lists e h = by_choice plan state lists e (enabled plan state e) (effect_before plan state lists e h)
+pub step_before : (plan : Plan) (state : State) (lists : Lists) (e : Event) → IsProper plan state
+    → FitsLists plan (step plan state e) lists → FitsLists plan state lists
+step_before plan state lists e h =
+    by_choice plan state lists e (enabled plan state e) (effect_before plan state lists e h)
 
 -- and those that it fits after events
-after_before : (plan : Plan) (lists : Lists) (events : List Event) (state : State) → 0 < plan.slots → IsProper plan state → FitsLists plan (after plan state events) lists → FitsLists plan state lists
+after_before : (plan : Plan) (lists : Lists) (events : List Event) (state : State) → 0 < plan.slots
+    → IsProper plan state → FitsLists plan (after plan state events) lists → FitsLists plan state lists
 after_before plan lists [] state some h fits = fits
 after_before plan lists (e ∷ es) state some h fits =
-    step_before plan state lists e h (after_before plan lists es (step plan state e) some (step_proper plan state e some h) fits)
+    step_before plan state lists e h
+    (after_before plan lists es (step plan state e) some (step_proper plan state e some h) fits)
 
 -- the heap that a Send appends is that of each lists that the state fits
-pub heap_fits : (plan : Plan) (state : State) (lists : Lists) → 0 < plan.slots → IsProper plan state → FitsLists plan state lists → enabled plan state Send ≡ true
+pub heap_fits : (plan : Plan) (state : State) (lists : Lists) → 0 < plan.slots → IsProper plan state
+    → FitsLists plan state lists → enabled plan state Send ≡ true
     → heap_packets plan (strings_of state) state.sent ≡ heap_packets plan lists state.sent
 heap_fits plan state lists some h fits on =
     let n = state.sent in
@@ -94,58 +105,77 @@ heap_fits plan state lists some h fits on =
     let full = (h.slot s low).full (not_filling_done z.kind parts.1) in
     same_heap plan (strings_of state) lists n (λ a few.
     let put = full_put plan state s a h low few full in
-    column_fits plan a n (stream_at state a) (lists a) (fits a few) (omega (arith, put, number, (h.stream a few).closed)))
+    column_fits plan a n (stream_at state a) (lists a) (fits a few)
+    (omega (arith, put, number, (h.stream a few).closed)))
 
-sends_same : (plan : Plan) (state : State) (lists : Lists) (on : Bool) → (on ≡ true → heap_packets plan (strings_of state) state.sent ≡ heap_packets plan lists state.sent)
-    → cond on (sent_with plan (heaps_of plan (strings_of state)) state.sent) [] ≡ cond on (sent_with plan (heaps_of plan lists) state.sent) []
+sends_same : (plan : Plan) (state : State) (lists : Lists) (on : Bool)
+    → (on ≡ true → heap_packets plan (strings_of state) state.sent ≡ heap_packets plan lists state.sent)
+    → cond on (sent_with plan (heaps_of plan (strings_of state)) state.sent) []
+    ≡ cond on (sent_with plan (heaps_of plan lists) state.sent) []
 sends_same plan state lists false same = refl
 sends_same plan state lists true same =
-    ap (λ heap. cond (eqb state.sent 0) (heaps_of plan lists).head [] ++ (heap ++ cond (eqb (state.sent + 1) plan.accumulations) (heaps_of plan lists).stop [])) (same refl)
+    ap (λ heap. cond (eqb state.sent 0) (heaps_of plan lists).head []
+    ++ (heap ++ cond (eqb (state.sent + 1) plan.accumulations) (heaps_of plan lists).stop [])) (same refl)
 
 nothing_same : {X : Type 0} (on : Bool) → ◌≡◌ {A = List X} (cond on [] []) (cond on [] [])
 nothing_same on = refl
 
 -- what an event appends, by the strings taken, is what it appends by each lists that the state fits
-pub appends_fit : (plan : Plan) (state : State) (lists : Lists) (e : Event) → 0 < plan.slots → IsProper plan state → FitsLists plan state lists
+pub appends_fit : (plan : Plan) (state : State) (lists : Lists) (e : Event) → 0 < plan.slots → IsProper plan state
+    → FitsLists plan state lists
     → appends plan (heaps_of plan (strings_of state)) state e ≡ appends plan (heaps_of plan lists) state e
 appends_fit plan state lists (Packet a b) some h fits = refl
 appends_fit plan state lists (End a) some h fits = refl
 appends_fit plan state lists (Put a) some h fits = refl
 appends_fit plan state lists (Take w s) some h fits = refl
 appends_fit plan state lists (Store w) some h fits = refl
-appends_fit plan state lists Send some h fits = sends_same plan state lists (enabled plan state Send) (heap_fits plan state lists some h fits)
+appends_fit plan state lists Send some h fits =
+    sends_same plan state lists (enabled plan state Send) (heap_fits plan state lists some h fits)
 
 -- the same of events
-sent_fits : (plan : Plan) (lists : Lists) (events : List Event) (state : State) → 0 < plan.slots → IsProper plan state → FitsLists plan (after plan state events) lists
+sent_fits : (plan : Plan) (lists : Lists) (events : List Event) (state : State) → 0 < plan.slots → IsProper plan state
+    → FitsLists plan (after plan state events) lists
     → sent_by plan state events ≡ appended plan (heaps_of plan lists) state events
 sent_fits plan lists [] state some h fits = refl
 sent_fits plan lists (e ∷ es) state some h fits =
     let next = step_proper plan state e some h in
-    ap (λ l. l ++ sent_by plan (step plan state e) es) (appends_fit plan state lists e some h (after_before plan lists (e ∷ es) state some h fits))
-    ∙ ap (λ l. appends plan (heaps_of plan lists) state e ++ l) (sent_fits plan lists es (step plan state e) some next fits)
+    ap (λ l. l ++ sent_by plan (step plan state e) es)
+    (appends_fit plan state lists e some h (after_before plan lists (e ∷ es) state some h fits))
+    ∙ ap (λ l. appends plan (heaps_of plan lists) state e ++ l)
+    (sent_fits plan lists es (step plan state e) some next fits)
 
 -- of a run
-pub reached_sent : (plan : Plan) (lists : Lists) (events : List Event) → 0 < plan.slots → 0 < plan.packet_limit → FitsLists plan (reached plan events) lists
+pub reached_sent : (plan : Plan) (lists : Lists) (events : List Event) → 0 < plan.slots → 0 < plan.packet_limit
+    → FitsLists plan (reached plan events) lists
     → sent_by plan (opening plan) events ≡ appended plan (heaps_of plan lists) (opening plan) events
-reached_sent plan lists events some strings fits = sent_fits plan lists events (opening plan) some (opening_proper plan some strings) fits
+reached_sent plan lists events some strings fits =
+    sent_fits plan lists events (opening plan) some (opening_proper plan some strings) fits
 
 -- so it is a front of their output
-pub sent_front : (plan : Plan) (lists : Lists) (events : List Event) → 0 < plan.slots → 0 < plan.packet_limit → 0 < plan.antennas → 0 < plan.accumulations
+pub sent_front : (plan : Plan) (lists : Lists) (events : List Event) → 0 < plan.slots → 0 < plan.packet_limit
+    → 0 < plan.antennas → 0 < plan.accumulations
     → FitsLists plan (reached plan events) lists → IsFront (sent_by plan (opening plan) events) (output plan lists)
 sent_front plan lists events some strings any all fits =
-    let front = subst (λ whole. IsFront (appended plan (heaps_of plan lists) (opening plan) events) whole) (output_is plan lists) (appended_front plan (heaps_of plan lists) events some strings any all) in
+    let front = subst (λ whole. IsFront (appended plan (heaps_of plan lists) (opening plan) events) whole)
+    (output_is plan lists) (appended_front plan (heaps_of plan lists) events some strings any all) in
     subst (λ l. IsFront l (output plan lists)) (sym (reached_sent plan lists events some strings fits)) front
 
 -- where no next event is enabled, all heaps were appended
-pub whole_appended : (plan : Plan) (heaps : OutputHeaps) (lists : Lists) (events : List Event) → 0 < plan.slots → 0 < plan.packet_limit → 0 < plan.antennas → 0 < plan.accumulations
-    → FitsLists plan (reached plan events) lists → ((e : Event) → IsNext plan lists (reached plan events) e → enabled plan (reached plan events) e ≡ false)
+pub whole_appended : (plan : Plan) (heaps : OutputHeaps) (lists : Lists) (events : List Event) → 0 < plan.slots
+    → 0 < plan.packet_limit → 0 < plan.antennas → 0 < plan.accumulations
+    → FitsLists plan (reached plan events) lists
+    → ((e : Event) → IsNext plan lists (reached plan events) e → enabled plan (reached plan events) e ≡ false)
     → appended plan heaps (opening plan) events ≡ output_of plan heaps
 whole_appended plan heaps lists events some strings any all fits none =
-    let over = stuck_is_over plan lists (reached plan events) some any (reached_proper plan events some strings) fits none in
+    let over = stuck_is_over plan lists (reached plan events) some any
+    (reached_proper plan events some strings) fits none in
     run_front plan heaps events ∙ ap (output_before plan heaps) over.sent ∙ before_all plan heaps all
 
-pub whole_sent : (plan : Plan) (lists : Lists) (events : List Event) → 0 < plan.slots → 0 < plan.packet_limit → 0 < plan.antennas → 0 < plan.accumulations
-    → FitsLists plan (reached plan events) lists → ((e : Event) → IsNext plan lists (reached plan events) e → enabled plan (reached plan events) e ≡ false)
+pub whole_sent : (plan : Plan) (lists : Lists) (events : List Event) → 0 < plan.slots → 0 < plan.packet_limit
+    → 0 < plan.antennas → 0 < plan.accumulations
+    → FitsLists plan (reached plan events) lists
+    → ((e : Event) → IsNext plan lists (reached plan events) e → enabled plan (reached plan events) e ≡ false)
     → sent_by plan (opening plan) events ≡ output plan lists
 whole_sent plan lists events some strings any all fits none =
-    reached_sent plan lists events some strings fits ∙ whole_appended plan (heaps_of plan lists) lists events some strings any all fits none ∙ output_is plan lists
+    reached_sent plan lists events some strings fits ∙ whole_appended plan (heaps_of plan lists) lists events some
+    strings any all fits none ∙ output_is plan lists

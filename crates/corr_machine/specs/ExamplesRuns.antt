@@ -29,7 +29,8 @@ four_heaps a = []
 
 -- a stream whose second accumulation is closed while the ring still waits for the first of the other
 abbrev pub ahead : List Event
-ahead = Packet 0 (heap_at 0) ∷ Packet 0 (heap_at 1) ∷ Packet 0 (heap_at 2) ∷ Packet 0 (heap_at 3) ∷ Put 0 ∷ Packet 0 (heap_at 3) ∷ End 0 ∷ Put 0 ∷ []
+ahead = Packet 0 (heap_at 0) ∷ Packet 0 (heap_at 1) ∷ Packet 0 (heap_at 2) ∷ Packet 0 (heap_at 3) ∷ Put 0
+    ∷ Packet 0 (heap_at 3) ∷ End 0 ∷ Put 0 ∷ []
 
 -- the other stream's end and column, the work, the sender, and then the same for the second accumulation
 abbrev pub goes_on : List Event
@@ -39,7 +40,8 @@ goes_on = End 1 ∷ Put 1 ∷ Take 0 0 ∷ Store 0 ∷ Send ∷ Put 0 ∷ Put 1 
 abbrev pub other_first : List Event
 other_first =
     End 1 ∷ Put 1 ∷ Put 1
-    ∷ Packet 0 (heap_at 0) ∷ Packet 0 (heap_at 1) ∷ Packet 0 (heap_at 2) ∷ Put 0 ∷ Take 0 0 ∷ Packet 0 (heap_at 3) ∷ End 0 ∷ Store 0 ∷ Send
+    ∷ Packet 0 (heap_at 0) ∷ Packet 0 (heap_at 1) ∷ Packet 0 (heap_at 2) ∷ Put 0 ∷ Take 0 0 ∷ Packet 0 (heap_at 3)
+    ∷ End 0 ∷ Store 0 ∷ Send
     ∷ Put 1 ∷ Put 0 ∷ Take 0 0 ∷ Store 0 ∷ Send ∷ []
 
 -- all actors by turns, whether they can move or not

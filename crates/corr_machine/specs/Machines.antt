@@ -157,20 +157,26 @@ with_column a x = record x { columns = slice_set x.columns a true }
 
 -- antenna a's column of number n goes into the slot for it
 abbrev pub column_put : Plan → State → ℕ → ℕ → State
-column_put plan state a n = with_slot (with_stream state a (record (stream_at state a) { put = n + 1 })) (n % plan.slots) (with_column a (slot_for plan state n))
+column_put plan state a n =
+    with_slot (with_stream state a (record (stream_at state a) { put = n + 1 })) (n % plan.slots)
+    (with_column a (slot_for plan state n))
 
 -- work w has stored number n
 abbrev pub result_stored : Plan → State → ℕ → ℕ → State
-result_stored plan state w n = with_work (with_slot state (n % plan.slots) (record (slot_for plan state n) { kind = Done })) w None
+result_stored plan state w n =
+    with_work (with_slot state (n % plan.slots) (record (slot_for plan state n) { kind = Done })) w None
 
 -- what an event does where it is enabled
 abbrev pub effect : Plan → State → Event → State
 effect plan state (Packet a b) = with_stream state a (with_string plan b (stream_at state a))
 effect plan state (End a) = with_stream state a (record (stream_at state a) { ended = true })
 effect plan state (Put a) = column_put plan state a (stream_at state a).put
-effect plan state (Take w s) = with_work (with_slot state s (record (slot_at state s) { kind = Working })) w (Some (slot_at state s).number)
+effect plan state (Take w s) =
+    with_work (with_slot state s (record (slot_at state s) { kind = Working })) w (Some (slot_at state s).number)
 effect plan state (Store w) = result_stored plan state w (unwrap_or (work_at state w) 0)
-effect plan state Send = record (with_slot state (state.sent % plan.slots) (empty_slot plan (state.sent + plan.slots))) { sent = state.sent + 1 }
+effect plan state Send =
+    record (with_slot state (state.sent % plan.slots) (empty_slot plan (state.sent + plan.slots)))
+    { sent = state.sent + 1 }
 
 -- the state after an event: an event that is not enabled changes nothing
 abbrev pub step : Plan → State → Event → State

@@ -33,7 +33,8 @@ output_of plan heaps = heaps.head ++ (flat_map heaps.heap (numbers 0 plan.accumu
 
 -- what is appended with heap n: before the first the descriptor heap, after the last the stop heap
 abbrev pub sent_with : Plan → OutputHeaps → ℕ → List (List ℕ)
-sent_with plan heaps n = (if n == 0 then heaps.head else []) ++ (heaps.heap n ++ (if n + 1 == plan.accumulations then heaps.stop else []))
+sent_with plan heaps n =
+    (if n == 0 then heaps.head else []) ++ (heaps.heap n ++ (if n + 1 == plan.accumulations then heaps.stop else []))
 
 -- what an event appends where it is enabled: a Send its heap, any other nothing
 abbrev pub appended_by : Plan → OutputHeaps → ℕ → Event → List (List ℕ)
@@ -56,7 +57,8 @@ strings_of state a = (stream_at state a).strings
 -- what these events append, where each heap is that of the strings taken until then
 abbrev pub sent_by : Plan → State → List Event → List (List ℕ)
 sent_by plan state [] = []
-sent_by plan state (e ∷ es) = appends plan (heaps_of plan (strings_of state)) state e ++ sent_by plan (step plan state e) es
+sent_by plan state (e ∷ es) =
+    appends plan (heaps_of plan (strings_of state)) state e ++ sent_by plan (step plan state e) es
 
 -- what is appended with the first n heaps
 abbrev pub output_before : Plan → OutputHeaps → ℕ → List (List ℕ)

@@ -21,15 +21,19 @@ use Rattle.corr_model.proofs.CountedLists.{length-numbers, numbers_push, get_or-
 abbrev pub one_if : Bool → ℕ
 one_if b = cond b 1 0
 
-held_step : (o e n s t : ℕ) → o ≤ e → s + min n o ≡ min n e → t ≡ s + one_if (nat_le o n && nat_lt n e) → t + min (suc n) o ≡ min (suc n) e
+held_step : (o e n s t : ℕ) → o ≤ e → s + min n o ≡ min n e → t ≡ s + one_if (nat_le o n && nat_lt n e)
+    → t + min (suc n) o ≡ min (suc n) e
 held_step o e n s t order before more =
     elim (cases_lt n o) [
-      | inl early ↦ let no : (nat_le o n && nat_lt n e) ≡ false = and_left (nat_le o n) (nat_lt n e) (lt-leb o n early) in
+      | inl early ↦ let no : (nat_le o n && nat_lt n e) ≡ false =
+          and_left (nat_le o n) (nat_lt n e) (lt-leb o n early) in
           let same : t ≡ s + 0 = more ∙ ap (λ b. s + one_if b) no in omega arith
       | inr begun ↦ elim (cases_lt n e) [
-        | inl inside ↦ let yes : (nat_le o n && nat_lt n e) ≡ true = and_from (nat_le o n) (nat_lt n e) (le-leb o n begun) (lt-ltb n e inside) in
+        | inl inside ↦ let yes : (nat_le o n && nat_lt n e) ≡ true =
+            and_from (nat_le o n) (nat_lt n e) (le-leb o n begun) (lt-ltb n e inside) in
             let one : t ≡ s + 1 = more ∙ ap (λ b. s + one_if b) yes in omega arith
-        | inr after ↦ let no : (nat_le o n && nat_lt n e) ≡ false = and_right (nat_le o n) (nat_lt n e) (le-ltb n e after) in
+        | inr after ↦ let no : (nat_le o n && nat_lt n e) ≡ false =
+            and_right (nat_le o n) (nat_lt n e) (le-ltb n e after) in
             let same : t ≡ s + 0 = more ∙ ap (λ b. s + one_if b) no in omega arith
       ]
     ]
@@ -37,13 +41,16 @@ held_step o e n s t order before more =
 -- one more number in a sum
 sum_more : (f : ℕ → ℕ) (n : ℕ) → sum_by f (numbers 0 (suc n)) ≡ sum_by f (numbers 0 n) + f n
 sum_more f n =
-    ap (sum_by f) (numbers_push 0 n) ∙ sum_by_push f (numbers 0 n) (0 + n) ∙ ap (λ m. sum_by f (numbers 0 n) + f m) (let e : 0 + n ≡ n = omega arith in e)
+    ap (sum_by f) (numbers_push 0 n) ∙ sum_by_push f (numbers 0 n) (0 + n) ∙ ap (λ m. sum_by f (numbers 0 n) + f m)
+    (let e : 0 + n ≡ n = omega arith in e)
 
 -- below n the packet holds the bytes from its offset to its end
 held_below : (p : Parts) (n : ℕ) → count_by (λ k. holds_byte k p) (numbers 0 n) + min n p.offset ≡ min n (end_of p)
 held_below p zero = omega arith
 held_below p (suc n) =
-    held_step p.offset (end_of p) n (count_by (λ k. holds_byte k p) (numbers 0 n)) (count_by (λ k. holds_byte k p) (numbers 0 (suc n))) (omega arith) (held_below p n) (sum_more (λ k. one_if (holds_byte k p)) n)
+    held_step p.offset (end_of p) n (count_by (λ k. holds_byte k p) (numbers 0 n))
+    (count_by (λ k. holds_byte k p) (numbers 0 (suc n))) (omega arith) (held_below p n)
+    (sum_more (λ k. one_if (holds_byte k p)) n)
 
 -- a packet that ends within n holds as many of these bytes as it brings
 held_all : (p : Parts) (n : ℕ) → end_of p ≤ n → count_by (λ k. holds_byte k p) (numbers 0 n) ≡ length p.payload
@@ -60,24 +67,29 @@ sum_of_sums f g h same (n ∷ ns) =
     let a = sum_by-cons f n ns in
     let b = sum_by-cons g n ns in
     let here = same n in
-    sum_by-cons h n ns ∙ (let e : h n + sum_by h ns ≡ (f n + sum_by f ns) + (g n + sum_by g ns) = omega (arith, rest, here) in e) ∙ ap₂ (λ x y. x + y) (sym a) (sym b)
+    sum_by-cons h n ns ∙
+    (let e : h n + sum_by h ns ≡ (f n + sum_by f ns) + (g n + sum_by g ns) = omega (arith, rest, here) in e) ∙ ap₂
+    (λ x y. x + y) (sym a) (sym b)
 
 none_held : (n : ℕ) → sum_by (holders []) (numbers 0 n) ≡ 0
 none_held zero = refl
 none_held (suc n) = sum_more (holders []) n ∙ ap (λ s. s + 0) (none_held n)
 
 -- counted by bytes or by packets, the sum is the same
-counted_twice : (ps : List Parts) (n : ℕ) → All (λ p. end_of p ≤ n) ps → sum_by (holders ps) (numbers 0 n) ≡ payload_bytes ps
+counted_twice : (ps : List Parts) (n : ℕ) → All (λ p. end_of p ≤ n) ps
+    → sum_by (holders ps) (numbers 0 n) ≡ payload_bytes ps
 counted_twice [] n within = none_held n
 counted_twice (p ∷ ps) n within =
     let ends : Parts → Type 0 = λ q. end_of q ≤ n in
-    sum_of_sums (λ k. one_if (holds_byte k p)) (holders ps) (holders (p ∷ ps)) (λ k. sum_by-cons (λ q. one_if (holds_byte k q)) p ps) (numbers 0 n)
+    sum_of_sums (λ k. one_if (holds_byte k p)) (holders ps) (holders (p ∷ ps))
+    (λ k. sum_by-cons (λ q. one_if (holds_byte k q)) p ps) (numbers 0 n)
     ∙ ap₂ (λ x y. x + y) (held_all p n (All-head ends p ps within)) (counted_twice ps n (All-tail ends p ps within))
     ∙ sym (sum_by-cons (λ q. length q.payload) p ps)
 
 small_sum : (f : ℕ → ℕ) → ((k : ℕ) → f k ≤ 1) → (n : ℕ) → sum_by f (numbers 0 n) ≤ n
 small_sum f small zero = omega arith
-small_sum f small (suc n) = let before = small_sum f small n in let here = small n in omega (arith, sum_more f n, before, here)
+small_sum f small (suc n) =
+    let before = small_sum f small n in let here = small n in omega (arith, sum_more f n, before, here)
 
 -- numbers of at most one that add up to as many as they are, are one each
 all_one : (f : ℕ → ℕ) → ((k : ℕ) → f k ≤ 1) → (n : ℕ) → sum_by f (numbers 0 n) ≡ n → (k : ℕ) → k < n → f k ≡ 1
@@ -88,13 +100,15 @@ all_one f small (suc n) whole k below =
     let last = small n in
     elim (cases_lt k n) [
       | inl less ↦ all_one f small n (omega (arith, more, most, last, whole)) k less
-      | inr same ↦ let e : k ≡ n = omega arith in let one : f n ≡ 1 = omega (arith, more, most, last, whole) in ap f e ∙ one
+      | inr same ↦ let e : k ≡ n = omega arith in let one : f n ≡ 1 =
+          omega (arith, more, most, last, whole) in ap f e ∙ one
     ]
 
 -- ---- kept packets
 
 -- a packet that shares no byte with these has its bytes alone
-no_holder : (ps : List Parts) (p : Parts) (k : ℕ) → list_any (share_a_byte p) ps ≡ false → holds_byte k p ≡ true → holders ps k ≡ 0
+no_holder : (ps : List Parts) (p : Parts) (k : ℕ) → list_any (share_a_byte p) ps ≡ false → holds_byte k p ≡ true
+    → holders ps k ≡ 0
 no_holder [] p k apart held = refl
 no_holder (q ∷ qs) p k apart held =
     let parts = or_parts (share_a_byte p q) (list_any (share_a_byte p) qs) apart in
@@ -118,12 +132,14 @@ past_either p q = is_past q.size (end_of p) || is_past p.size (end_of q)
 not_past : (size end z : ℕ) → size ≡ z → is_past (Some size) end ≡ false → end ≤ z
 not_past size end z same past = let within = ltb-false size end past in omega (arith, within, same)
 
-by_first_size : (s rest : Option ℕ) (z e : ℕ) → option_or s rest ≡ Some z → is_past s e ≡ false → (rest ≡ Some z → e ≤ z) → e ≤ z
+by_first_size : (s rest : Option ℕ) (z e : ℕ) → option_or s rest ≡ Some z → is_past s e ≡ false
+    → (rest ≡ Some z → e ≤ z) → e ≤ z
 by_first_size None rest z e said past later = later said
 by_first_size (Some n) rest z e said past later = not_past n e z (same_Some n z said) past
 
 -- a packet that passes the test ends within the size that these say
-ends_within : (ps : List Parts) (p : Parts) (z : ℕ) → said_size ps ≡ Some z → list_any (past_either p) ps ≡ false → end_of p ≤ z
+ends_within : (ps : List Parts) (p : Parts) (z : ℕ) → said_size ps ≡ Some z → list_any (past_either p) ps ≡ false
+    → end_of p ≤ z
 ends_within [] p z said past = absurd (none-some z said)
 ends_within (q ∷ qs) p z said past =
     let parts = or_parts (past_either p q) (list_any (past_either p) qs) past in
@@ -135,7 +151,8 @@ past_said None z e said past = absurd (none-some z said)
 past_said (Some n) z e said past = not_past n e z (same_Some n z said) past
 
 -- and these end within the size that it says
-others_end_within : (ps : List Parts) (p : Parts) (z : ℕ) → p.size ≡ Some z → list_any (past_either p) ps ≡ false → All (λ q. end_of q ≤ z) ps
+others_end_within : (ps : List Parts) (p : Parts) (z : ℕ) → p.size ≡ Some z → list_any (past_either p) ps ≡ false
+    → All (λ q. end_of q ≤ z) ps
 others_end_within [] p z said past = All-nil (λ q. end_of q ≤ z)
 others_end_within (q ∷ qs) p z said past =
     let parts = or_parts (past_either p q) (list_any (past_either p) qs) past in
@@ -170,12 +187,14 @@ own_size : (s : Option ℕ) (z e : ℕ) → s ≡ Some z → IfSome s (λ size. 
 own_size None z e said own = absurd (none-some z said)
 own_size (Some n) z e said own = let same = same_Some n z said in omega (arith, same, own)
 
-cond_none : {A : Type 0} (b : Bool) (x : A) (rest : Option A) → (if b then Some x else rest) ≡ None → (b ≡ false) × (rest ≡ None)
+cond_none : {A : Type 0} (b : Bool) (x : A) (rest : Option A) → (if b then Some x else rest) ≡ None
+    → (b ≡ false) × (rest ≡ None)
 cond_none true x rest e = absurd (none-some x (sym e))
 cond_none false x rest e = (refl, e)
 
 -- the tests that a kept packet passed
-passed : (ps : List Parts) (p : Parts) → drop_cause ps p ≡ None → (list_any (past_either p) ps ≡ false) × (list_any (share_a_byte p) ps ≡ false)
+passed : (ps : List Parts) (p : Parts) → drop_cause ps p ≡ None
+    → (list_any (past_either p) ps ≡ false) × (list_any (share_a_byte p) ps ≡ false)
 passed ps p none =
     let pointers = if nat_lt 64 (length (pointers_of (ps ++ p ∷ []))) then Some TooManyPointers else None in
     let overlap = if list_any (share_a_byte p) ps then Some Overlap else pointers in
@@ -185,7 +204,8 @@ passed ps p none =
     let third = cond_none (list_any (share_a_byte p) ps) Overlap pointers second.1 in
     (second.0, third.0)
 
-within_by : (ps : List Parts) (p : Parts) (s : Option ℕ) → said_size ps ≡ s → IsApart ps → EndsWithin p → list_any (past_either p) ps ≡ false
+within_by : (ps : List Parts) (p : Parts) (s : Option ℕ) → said_size ps ≡ s → IsApart ps → EndsWithin p
+    → list_any (past_either p) ps ≡ false
     → (z : ℕ) → option_or s p.size ≡ Some z → All (λ q. end_of q ≤ z) (ps ++ p ∷ [])
 within_by ps p None is apart own past z said =
     All-push (λ q. end_of q ≤ z) ps p (others_end_within ps p z said past) (own_size p.size z (end_of p) said own)
@@ -196,12 +216,15 @@ within_by ps p (Some n) is apart own past z said =
 push_apart : (ps : List Parts) (p : Parts) → IsApart ps → EndsWithin p → drop_cause ps p ≡ None → IsApart (ps ++ p ∷ [])
 push_apart ps p apart own none =
     let tests = passed ps p none in
-    let pushed : (k : ℕ) → holders (ps ++ p ∷ []) k ≡ holders ps k + one_if (holds_byte k p) = λ k. sum_by_push (λ q. one_if (holds_byte k q)) ps p in
+    let pushed : (k : ℕ) → holders (ps ++ p ∷ []) k ≡ holders ps k + one_if (holds_byte k p) =
+    λ k. sum_by_push (λ q. one_if (holds_byte k q)) ps p in
     record {
       once = λ k.
           elim (cases_Bool (holds_byte k p)) [
-            | inl held ↦ let alone = no_holder ps p k tests.1 held in let one = ap one_if held in omega (arith, pushed k, alone, one)
-            | inr free ↦ let before = apart.once k in let none_here = ap one_if free in omega (arith, pushed k, before, none_here)
+            | inl held ↦ let alone = no_holder ps p k tests.1 held in let one =
+                ap one_if held in omega (arith, pushed k, alone, one)
+            | inr free ↦ let before = apart.once k in let none_here =
+                ap one_if free in omega (arith, pushed k, before, none_here)
           ];
       within = λ z said. within_by ps p (said_size ps) refl apart own tests.0 z (sym (said_push ps p) ∙ said);
     }
@@ -210,19 +233,22 @@ abbrev pub kept_by : Option DropCause → List Parts → Parts → List Parts
 kept_by None ps p = ps ++ p ∷ []
 kept_by (Some cause) ps p = ps
 
-kept_one : (q : PlacedPacket) (cause : Option DropCause) (ps : List Parts) → ps ++ kept (record { member = q; cause = cause } ∷ []) ≡ kept_by cause ps q.packet
+kept_one : (q : PlacedPacket) (cause : Option DropCause) (ps : List Parts)
+    → ps ++ kept (record { member = q; cause = cause } ∷ []) ≡ kept_by cause ps q.packet
 kept_one q None ps = refl
 kept_one q (Some cause) ps = append-nil ps
 
 -- one more member among the kept packets
-pub kept_push : (fs : List Fate) (q : PlacedPacket) → kept (fs ++ fate_next fs q ∷ []) ≡ kept_by (drop_cause (kept fs) q.packet) (kept fs) q.packet
+pub kept_push : (fs : List Fate) (q : PlacedPacket)
+    → kept (fs ++ fate_next fs q ∷ []) ≡ kept_by (drop_cause (kept fs) q.packet) (kept fs) q.packet
 kept_push fs q =
     let is_kept : Fate → Bool = λ f. is_none f.cause in
     ap (map (λ f. f.member.packet)) (filter-append is_kept fs (fate_next fs q ∷ []))
     ∙ map-append (λ f. f.member.packet) (filter is_kept fs) (filter is_kept (fate_next fs q ∷ []))
     ∙ kept_one q (drop_cause (kept fs) q.packet) (kept fs)
 
-pub apart_by : (ps : List Parts) (p : Parts) (cause : Option DropCause) → drop_cause ps p ≡ cause → IsApart ps → EndsWithin p → IsApart (kept_by cause ps p)
+pub apart_by : (ps : List Parts) (p : Parts) (cause : Option DropCause) → drop_cause ps p ≡ cause → IsApart ps
+    → EndsWithin p → IsApart (kept_by cause ps p)
 apart_by ps p None is apart own = push_apart ps p apart own is
 apart_by ps p (Some cause) is apart own = apart
 
@@ -231,13 +257,15 @@ added_up None n e = absurd (false≢true e)
 added_up (Some size) n e = ap Some (eqb-true size n e)
 
 -- packets of which none holds a byte of another hold each byte once, where their lengths add up to the size
-pub held_once : (ps : List Parts) (k : ℕ) → IsApart ps → adds_up (said_size ps) (payload_bytes ps) ≡ true → k < payload_bytes ps → count_by (holds_byte k) ps ≡ 1
+pub held_once : (ps : List Parts) (k : ℕ) → IsApart ps → adds_up (said_size ps) (payload_bytes ps) ≡ true
+    → k < payload_bytes ps → count_by (holds_byte k) ps ≡ 1
 held_once ps k apart complete below =
     let n = payload_bytes ps in
     let ends = apart.within n (added_up (said_size ps) n complete) in
     all_one (holders ps) apart.once n (counted_twice ps n ends) k below
 
-found_one : {X : Type 0} (test : X → Bool) (xs : List X) → 1 ≤ count_by test xs → (x : X) × (find test xs ≡ Some x) × (test x ≡ true)
+found_one : {X : Type 0} (test : X → Bool) (xs : List X) → 1 ≤ count_by test xs
+    → (x : X) × (find test xs ≡ Some x) × (test x ≡ true)
 found_one test [] some = absurd (omega arith)
 found_one test (x ∷ xs) some = elim (cases_Bool (test x)) [
   | inl here ↦ (x, ap (λ b. cond b (Some x) (find test xs)) here, here)
@@ -250,7 +278,8 @@ found_one test (x ∷ xs) some = elim (cases_Bool (test x)) [
 
 -- a byte that one packet holds is that of a packet
 pub joined_byte : (ps : List Parts) (k : ℕ) → k < payload_bytes ps → count_by (holds_byte k) ps ≡ 1
-    → (p : Parts) × (find (holds_byte k) ps ≡ Some p) × (p.offset ≤ k) × (k < end_of p) × (slice_index (joined ps) k ≡ slice_index p.payload (k - p.offset))
+    → (p : Parts) × (find (holds_byte k) ps ≡ Some p) × (p.offset ≤ k) × (k < end_of p)
+    × (slice_index (joined ps) k ≡ slice_index p.payload (k - p.offset))
 joined_byte ps k below once =
     let n = payload_bytes ps in
     let found = found_one (holds_byte k) ps (omega (arith, once)) in
@@ -261,10 +290,12 @@ joined_byte ps k below once =
       leb-true p.offset k range.0,
       ltb-true k (end_of p) range.1,
       get_or-map (λ m. byte_of m (find (holds_byte m) ps)) (numbers 0 n) k 0 0 (omega (arith, length-numbers 0 n))
-          ∙ ap (λ m. byte_of m (find (holds_byte m) ps)) (get_or-numbers 0 n k 0 below ∙ (let e : 0 + k ≡ k = omega arith in e))
+          ∙ ap (λ m. byte_of m (find (holds_byte m) ps))
+          (get_or-numbers 0 n k 0 below ∙ (let e : 0 + k ≡ k = omega arith in e))
           ∙ ap (byte_of k) found.1,
     )
 
 -- a payload has as many bytes as its packets bring
 pub length-joined : (ps : List Parts) → length (joined ps) ≡ payload_bytes ps
-length-joined ps = length-map (numbers 0 (payload_bytes ps)) (λ k. byte_of k (find (holds_byte k) ps)) ∙ length-numbers 0 (payload_bytes ps)
+length-joined ps = length-map (numbers 0 (payload_bytes ps)) (λ k. byte_of k (find (holds_byte k) ps)) ∙ length-numbers
+    0 (payload_bytes ps)

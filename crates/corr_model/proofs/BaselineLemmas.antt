@@ -17,7 +17,8 @@ apart a b h =
     omega (arith, next_product a)
 
 -- the second antenna that a search finds is the only one
-second : (i j k start b : ℕ) → 2 * start ≡ k * (k + 1) → start ≤ b → b ≤ start + k → i ≤ j → j * (j + 1) / 2 + i ≡ b → k ≡ j
+second : (i j k start b : ℕ) → 2 * start ≡ k * (k + 1) → start ≤ b → b ≤ start + k → i ≤ j
+    → j * (j + 1) / 2 + i ≡ b → k ≡ j
 second i j k start b first low high order number =
     elim (cases_lt k j) [
       | inl less ↦ absurd (let e = apart k j less in let _d = e in omega arith)
@@ -28,7 +29,8 @@ second i j k start b first low high order number =
     ]
 
 -- the pair that a search finds is the only one
-pub only_pair : (i j k start b : ℕ) → 2 * start ≡ k * (k + 1) → start ≤ b → b ≤ start + k → i ≤ j → baseline_number i j ≡ b → (b - start ≡ i) × (k ≡ j)
+pub only_pair : (i j k start b : ℕ) → 2 * start ≡ k * (k + 1) → start ≤ b → b ≤ start + k → i ≤ j
+    → baseline_number i j ≡ b → (b - start ≡ i) × (k ≡ j)
 only_pair i j k start b first low high order number =
     let same : k ≡ j = second i j k start b first low high order number in
     let product : k * (k + 1) ≡ j * (j + 1) = ap (λ n. n * (n + 1)) same in

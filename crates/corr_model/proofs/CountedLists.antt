@@ -23,7 +23,8 @@ get_or-numbers from (suc n) (suc k) d h =
     get_or-numbers (from + 1) n k d (omega arith) ∙ next
 
 -- a list of pieces of one length
-pub length-flat_map_even : {X A : Type 0} (f : X → List A) (n : ℕ) → ((x : X) → length (f x) ≡ n) → (xs : List X) → length (flat_map f xs) ≡ length xs * n
+pub length-flat_map_even : {X A : Type 0} (f : X → List A) (n : ℕ) → ((x : X) → length (f x) ≡ n) → (xs : List X)
+    → length (flat_map f xs) ≡ length xs * n
 length-flat_map_even f n each [] = omega arith
 length-flat_map_even f n each (x ∷ xs) =
     let rest = length-flat_map_even f n each xs in

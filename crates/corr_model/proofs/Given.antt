@@ -12,13 +12,17 @@ pub given_is_final : (plan : Plan) (antenna : ℕ) (l rest : List (List ℕ)) (n
     → n < floor plan antenna l ended → (ended ≡ true → rest ≡ [])
     → column plan antenna (l ++ rest) n ≡ column plan antenna l n
 given_is_final plan antenna l rest n false below none = closed_columns_stay plan antenna l rest n below
-given_is_final plan antenna l rest n true below none = ap (λ r. column plan antenna (l ++ r) n) (none refl) ∙ ap (λ k. column plan antenna k n) (append-nil l)
+given_is_final plan antenna l rest n true below none =
+    ap (λ r. column plan antenna (l ++ r) n) (none refl) ∙ ap (λ k. column plan antenna k n) (append-nil l)
 
 -- what counts of a front that has ended is what counts of the whole
-pub taken_of_front : (plan : Plan) (l : List (List ℕ)) (n : ℕ) → is_some (ending plan (take n l)) ≡ true → taken plan (take n l) ≡ taken plan l
-taken_of_front plan l n ended = sym (taken_past plan (take n l) (drop n l) ended) ∙ ap (taken plan) (take-append-drop n l)
+pub taken_of_front : (plan : Plan) (l : List (List ℕ)) (n : ℕ) → is_some (ending plan (take n l)) ≡ true
+    → taken plan (take n l) ≡ taken plan l
+taken_of_front plan l n ended =
+    sym (taken_past plan (take n l) (drop n l) ended) ∙ ap (taken plan) (take-append-drop n l)
 
 -- a list that ends at a string took all up to it, and no longer one takes more
-pub taken_at_end : (plan : Plan) (l rest : List (List ℕ)) (b : List ℕ) → ending plan l ≡ None → is_some (ending plan (l ++ b ∷ [])) ≡ true
+pub taken_at_end : (plan : Plan) (l rest : List (List ℕ)) (b : List ℕ) → ending plan l ≡ None
+    → is_some (ending plan (l ++ b ∷ [])) ≡ true
     → taken plan ((l ++ b ∷ []) ++ rest) ≡ l ++ b ∷ []
 taken_at_end plan l rest b goes_on ended = taken_past plan (l ++ b ∷ []) rest ended ∙ taken_next plan l b goes_on

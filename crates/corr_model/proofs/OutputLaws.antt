@@ -37,13 +37,16 @@ length-row j = length-map (numbers 0 (j + 1)) (λ i. (i, j)) ∙ length-numbers 
 -- one more antenna brings the pairs with it
 pairs_push : (n : ℕ) → pairs (suc n) ≡ pairs n ++ row n
 pairs_push n =
-    ap (flat_map row) (numbers_push 0 n) ∙ flat_map-append row (numbers 0 n) ((0 + n) ∷ []) ∙ ap (λ k. pairs n ++ (row k ++ [])) (let e : 0 + n ≡ n = omega arith in e) ∙ ap (λ ps. pairs n ++ ps) (append-nil (row n))
+    ap (flat_map row) (numbers_push 0 n) ∙ flat_map-append row (numbers 0 n) ((0 + n) ∷ []) ∙ ap
+    (λ k. pairs n ++ (row k ++ [])) (let e : 0 + n ≡ n = omega arith in e) ∙ ap (λ ps. pairs n ++ ps)
+    (append-nil (row n))
 
 twice_pairs : (n : ℕ) → 2 * length (pairs n) ≡ n * (n + 1)
 twice_pairs zero = refl
 twice_pairs (suc n) =
     let before = twice_pairs n in
-    let whole : length (pairs (suc n)) ≡ length (pairs n) + (n + 1) = ap length (pairs_push n) ∙ length-append (pairs n) (row n) ∙ ap (λ k. length (pairs n) + k) (length-row n) in
+    let whole : length (pairs (suc n)) ≡ length (pairs n) + (n + 1) =
+    ap length (pairs_push n) ∙ length-append (pairs n) (row n) ∙ ap (λ k. length (pairs n) + k) (length-row n) in
     let grown : suc n * (suc n + 1) ≡ n * (n + 1) + 2 * (n + 1) = grind arith in
     omega (arith, before, whole, grown)
 
@@ -81,24 +84,34 @@ baseline_below : (n i j : ℕ) → i ≤ j → j < n → baseline_number i j < l
 baseline_below n i j order below = let gap = apart j n below in omega (arith, twice_pairs n, gap)
 
 -- the pair at the number of a baseline
-pub pair_at_baseline : (antennas i j : ℕ) → i ≤ j → j < antennas → slice_get (pairs antennas) (baseline_number i j) ≡ Some (i, j)
+pub pair_at_baseline : (antennas i j : ℕ) → i ≤ j → j < antennas
+    → slice_get (pairs antennas) (baseline_number i j) ≡ Some (i, j)
 pair_at_baseline antennas i j order below =
-    slice_get-get_or (pairs antennas) (baseline_number i j) (0, 0) (baseline_below antennas i j order below) ∙ ap Some (get_or-pairs antennas i j (0, 0) order below)
+    slice_get-get_or (pairs antennas) (baseline_number i j) (0, 0) (baseline_below antennas i j order below) ∙ ap Some
+    (get_or-pairs antennas i j (0, 0) order below)
 
 -- the values of an accumulation, as bytes
-pub value_payload_length : (plan : Plan) (lists : Lists) (n : ℕ) → length (value_payload plan lists n) ≡ value_bytes plan
+pub value_payload_length : (plan : Plan) (lists : Lists) (n : ℕ)
+    → length (value_payload plan lists n) ≡ value_bytes plan
 value_payload_length plan lists n =
-    let each : (c : ℕ) → length (flat_map (λ ij. flat_map (λ pq. complex_bytes (vis plan lists n ij.0 ij.1 c pq.0 pq.1)) products) (pairs plan.antennas)) ≡ baselines plan * 64
+    let each : (c : ℕ) → length
+    (flat_map (λ ij. flat_map (λ pq. complex_bytes (vis plan lists n ij.0 ij.1 c pq.0 pq.1)) products)
+    (pairs plan.antennas)) ≡ baselines plan * 64
     = λ c.
-    length-flat_map_even (λ ij. flat_map (λ pq. complex_bytes (vis plan lists n ij.0 ij.1 c pq.0 pq.1)) products) 64 (λ ij. refl) (pairs plan.antennas) ∙ ap (λ k. k * 64) (pairs_length plan.antennas) in
-    length-flat_map_even (λ c. flat_map (λ ij. flat_map (λ pq. complex_bytes (vis plan lists n ij.0 ij.1 c pq.0 pq.1)) products) (pairs plan.antennas)) (baselines plan * 64) each (numbers 0 plan.channels)
+    length-flat_map_even (λ ij. flat_map (λ pq. complex_bytes (vis plan lists n ij.0 ij.1 c pq.0 pq.1)) products) 64
+    (λ ij. refl) (pairs plan.antennas) ∙ ap (λ k. k * 64) (pairs_length plan.antennas) in
+    length-flat_map_even
+    (λ c. flat_map (λ ij. flat_map (λ pq. complex_bytes (vis plan lists n ij.0 ij.1 c pq.0 pq.1)) products)
+    (pairs plan.antennas)) (baselines plan * 64) each (numbers 0 plan.channels)
     ∙ ap (λ k. k * (baselines plan * 64)) (length-numbers 0 plan.channels)
     ∙ in_order plan.channels (baselines plan)
 
 -- the missing counts of an accumulation, as bytes
-pub missing_payload_length : (plan : Plan) (lists : Lists) (n : ℕ) → length (missing_payload plan lists n) ≡ 4 * baselines plan
+pub missing_payload_length : (plan : Plan) (lists : Lists) (n : ℕ)
+    → length (missing_payload plan lists n) ≡ 4 * baselines plan
 missing_payload_length plan lists n =
-    length-flat_map_even (λ ij. bytes_high_first 4 (missing plan lists n ij.0 ij.1)) 4 (λ ij. refl) (pairs plan.antennas) ∙ ap (λ k. k * 4) (pairs_length plan.antennas) ∙ mul_comm (baselines plan) 4
+    length-flat_map_even (λ ij. bytes_high_first 4 (missing plan lists n ij.0 ij.1)) 4 (λ ij. refl)
+    (pairs plan.antennas) ∙ ap (λ k. k * 4) (pairs_length plan.antennas) ∙ mul_comm (baselines plan) 4
 
 -- a payload that one packet holds is one piece
 pub one_piece : (width n : ℕ) → 1 ≤ width → n ≤ width → piece_count width n ≡ 1
@@ -107,17 +120,21 @@ one_piece width n some short =
     omega (arith, below)
 
 -- such a heap is one packet
-pub packets_of_one : (plan : Plan) (counter : ℕ) (own : List Pointer) (payload : List ℕ) → 1 ≤ plan.packet → length payload ≤ plan.packet
+pub packets_of_one : (plan : Plan) (counter : ℕ) (own : List Pointer) (payload : List ℕ) → 1 ≤ plan.packet
+    → length payload ≤ plan.packet
     → packets_of plan counter own payload ≡ heap_packet counter (length payload) own 0 payload ∷ []
 packets_of_one plan counter own payload some short =
-    let piece : ℕ → List ℕ = λ k. heap_packet counter (length payload) own (k * plan.packet) (take plan.packet (drop (k * plan.packet) payload)) in
+    let piece : ℕ → List ℕ =
+    λ k. heap_packet counter (length payload) own (k * plan.packet)
+    (take plan.packet (drop (k * plan.packet) payload)) in
     let zeroth : 0 * plan.packet ≡ 0 = zero-mul plan.packet in
     ap (λ k. map piece (numbers 0 k)) (one_piece plan.packet (length payload) some short)
     ∙ ap (λ k. heap_packet counter (length payload) own k (take plan.packet (drop k payload)) ∷ []) zeroth
     ∙ ap (λ bytes. heap_packet counter (length payload) own 0 bytes ∷ []) (take_all plan.packet payload short)
 
 -- the payload of a visibility heap
-pub heap_payload_length : (plan : Plan) (lists : Lists) (n : ℕ) → length (value_payload plan lists n ++ missing_payload plan lists n) ≡ visibility_bytes plan
+pub heap_payload_length : (plan : Plan) (lists : Lists) (n : ℕ)
+    → length (value_payload plan lists n ++ missing_payload plan lists n) ≡ visibility_bytes plan
 heap_payload_length plan lists n =
     length-append (value_payload plan lists n) (missing_payload plan lists n)
     ∙ ap (λ k. k + length (missing_payload plan lists n)) (value_payload_length plan lists n)

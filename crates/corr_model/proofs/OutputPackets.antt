@@ -41,7 +41,8 @@ piece_begins width n k some below =
           omega (arith, product)
     ]
 
-pub piece_ends : (width k : ℕ) (payload : List ℕ) → k * width ≤ length payload → k * width + length (take width (drop (k * width) payload)) ≤ length payload
+pub piece_ends : (width k : ℕ) (payload : List ℕ) → k * width ≤ length payload
+    → k * width + length (take width (drop (k * width) payload)) ≤ length payload
 piece_ends width k payload begins =
     omega (arith, length-take width (drop (k * width) payload), length-drop (k * width) payload)
 
@@ -63,21 +64,29 @@ pub record IsSendable (counter : ℕ) (pointers : List Pointer) (payload : List 
   pub size : length payload < 2 ^ 48
 
 -- the k-th packet of a heap read back
-pub piece_back : (width counter : ℕ) (own : List Pointer) (payload : List ℕ) (k : ℕ) → 1 ≤ width → IsSendable counter own payload → k < piece_count width (length payload)
-    → packet_in (heap_packet counter (length payload) own (k * width) (take width (drop (k * width) payload))) ≡ Some (piece_of width counter own payload k)
+pub piece_back : (width counter : ℕ) (own : List Pointer) (payload : List ℕ) (k : ℕ) → 1 ≤ width
+    → IsSendable counter own payload → k < piece_count width (length payload)
+    → packet_in (heap_packet counter (length payload) own (k * width) (take width (drop (k * width) payload)))
+    ≡ Some (piece_of width counter own payload k)
 piece_back width counter own payload k some fits below =
     let begins = piece_begins width (length payload) k some below in
-    spelled_packet counter (length payload) (k * width) own (take width (drop (k * width) payload)) fits.number fits.size (piece_ends width k payload begins) fits.few fits.own
+    spelled_packet counter (length payload) (k * width) own (take width (drop (k * width) payload)) fits.number
+    fits.size (piece_ends width k payload begins) fits.few fits.own
 
 -- the bytes spell a packet with this counter
 abbrev SpellsCounter : ℕ → List ℕ → Type 0
 SpellsCounter counter bytes = option_map (λ p. p.counter) (packet_in bytes) ≡ Some counter
 
 -- each packet of a heap spells the heap's counter
-pub counters_of : (plan : Plan) (counter : ℕ) (own : List Pointer) (payload : List ℕ) → 1 ≤ plan.packet → IsSendable counter own payload → All (SpellsCounter counter) (packets_of plan counter own payload)
+pub counters_of : (plan : Plan) (counter : ℕ) (own : List Pointer) (payload : List ℕ) → 1 ≤ plan.packet
+    → IsSendable counter own payload → All (SpellsCounter counter) (packets_of plan counter own payload)
 counters_of plan counter own payload some fits =
-    All-map (SpellsCounter counter) (λ k. heap_packet counter (length payload) own (k * plan.packet) (take plan.packet (drop (k * plan.packet) payload))) (numbers 0 (piece_count plan.packet (length payload)))
-    (all_numbers (λ k. SpellsCounter counter (heap_packet counter (length payload) own (k * plan.packet) (take plan.packet (drop (k * plan.packet) payload)))) (piece_count plan.packet (length payload))
+    All-map (SpellsCounter counter)
+    (λ k. heap_packet counter (length payload) own (k * plan.packet)
+    (take plan.packet (drop (k * plan.packet) payload))) (numbers 0 (piece_count plan.packet (length payload)))
+    (all_numbers (λ k. SpellsCounter counter
+    (heap_packet counter (length payload) own (k * plan.packet)
+    (take plan.packet (drop (k * plan.packet) payload)))) (piece_count plan.packet (length payload))
     (λ k below. ap (option_map (λ p. p.counter)) (piece_back plan.packet counter own payload k some fits below)))
 
 -- three pointers of the heap
@@ -88,7 +97,8 @@ three_own p q r first second third =
 -- the packets of the descriptor heap have counter 1
 pub head_counters : (plan : Plan) → Fits plan → All (SpellsCounter 1) (head_packets plan)
 head_counters plan fits =
-    counters_of plan 1 (addressed 5 0 ∷ addressed 5 84 ∷ addressed 5 199 ∷ []) (head_payload plan) (omega arith) (record {
+    counters_of plan 1 (addressed 5 0 ∷ addressed 5 84 ∷ addressed 5 199 ∷ []) (head_payload plan)
+    (omega arith) (record {
       number = omega arith;
       few = omega arith;
       own = three_own (addressed 5 0) (addressed 5 84) (addressed 5 199)
@@ -99,23 +109,31 @@ head_counters plan fits =
     })
 
 -- the timestamps of a plan that fits are below 2^48
-pub timestamp_fits : (start n heaps step most : ℕ) → n ≤ most → start + most * heaps * step ≤ 2 ^ 48 - 1 → start + n * heaps * step < 2 ^ 48
+pub timestamp_fits : (start n heaps step most : ℕ) → n ≤ most → start + most * heaps * step ≤ 2 ^ 48 - 1
+    → start + n * heaps * step < 2 ^ 48
 timestamp_fits start n heaps step most below last =
     let inner : n * heaps ≤ most * heaps = mul-le-mul_right heaps below in
     let outer : n * heaps * step ≤ most * heaps * step = mul-le-mul_right step inner in
     omega arith
 
 -- the packets of visibility heap n have counter n + 2
-pub heap_counters : (plan : Plan) (lists : Lists) (n : ℕ) → Fits plan → n < plan.accumulations → All (SpellsCounter (n + 2)) (heap_packets plan lists n)
+pub heap_counters : (plan : Plan) (lists : Lists) (n : ℕ) → Fits plan → n < plan.accumulations
+    → All (SpellsCounter (n + 2)) (heap_packets plan lists n)
 heap_counters plan lists n fits below =
     let most = fits.ranges.shape.accumulations.most_met in
     let reserved_most : visibility_bytes plan ≤ 2 ^ 30 = omega arith in
     let timestamp = plan.start + n * plan.heaps * plan.step in
-    counters_of plan (n + 2) (visibility_pointers plan n) (value_payload plan lists n ++ missing_payload plan lists n) (omega arith) (record {
+    counters_of plan (n + 2) (visibility_pointers plan n) (value_payload plan lists n ++ missing_payload plan lists n)
+    (omega arith) (record {
       number = omega arith;
       few = omega arith;
       own = three_own (immediate 0x1600 timestamp) (addressed 0x1800 0) (addressed 0x1801 (value_bytes plan))
-          (record { least = omega arith; id = omega arith; value = timestamp_fits plan.start n plan.heaps plan.step plan.accumulations (omega arith) fits.joint.end_of_grid })
+          (record {
+            least = omega arith;
+            id = omega arith;
+            value = timestamp_fits plan.start n plan.heaps plan.step plan.accumulations (omega arith)
+                fits.joint.end_of_grid;
+          })
           (record { least = omega arith; id = omega arith; value = omega arith })
           (record { least = omega arith; id = omega arith; value = omega arith });
       size = omega (arith, heap_payload_length plan lists n);
@@ -128,37 +146,52 @@ stop_counters plan fits =
     counters_of plan (plan.accumulations + 2) (immediate 6 2 ∷ []) [] (omega arith) (record {
       number = omega arith;
       few = omega arith;
-      own = All-cons IsOwn (immediate 6 2) [] (record { least = omega arith; id = omega arith; value = omega arith }) (All-nil IsOwn);
+      own = All-cons IsOwn (immediate 6 2) [] (record { least = omega arith; id = omega arith; value = omega arith })
+          (All-nil IsOwn);
       size = omega arith;
     })
 
 -- the output is its head, a heap for each accumulation, and its stop
 pub heaps_in_output : (plan : Plan) (lists : Lists)
-    → (heaps : List (List (List ℕ))) × (length heaps ≡ plan.accumulations) × ((n : ℕ) → n < plan.accumulations → slice_get heaps n ≡ Some (heap_packets plan lists n))
+    → (heaps : List (List (List ℕ))) × (length heaps ≡ plan.accumulations)
+    × ((n : ℕ) → n < plan.accumulations → slice_get heaps n ≡ Some (heap_packets plan lists n))
     × (output plan lists ≡ head_packets plan ++ (flat_map (λ heap. heap) heaps ++ stop_packets plan))
 heaps_in_output plan lists =
     let count = plan.accumulations in
     let made = heap_packets plan lists in
-    let long : length (map made (numbers 0 count)) ≡ count = length-map (numbers 0 count) made ∙ length-numbers 0 count in (
+    let long : length (map made (numbers 0 count)) ≡ count =
+    length-map (numbers 0 count) made ∙ length-numbers 0 count in (
       map made (numbers 0 count),
       long,
       λ n below.
           slice_get-get_or (map made (numbers 0 count)) n [] (omega (arith, long))
-          ∙ ap Some (get_or-map made (numbers 0 count) n 0 [] (omega (arith, length-numbers 0 count)) ∙ ap made (get_or-numbers 0 count n 0 below ∙ (let e : 0 + n ≡ n = omega arith in e))),
-      ap (λ packets. head_packets plan ++ (packets ++ stop_packets plan)) (sym (flat_map-map (λ heap. heap) made (numbers 0 count))),
+          ∙ ap Some (get_or-map made (numbers 0 count) n 0 [] (omega (arith, length-numbers 0 count)) ∙ ap made
+          (get_or-numbers 0 count n 0 below ∙ (let e : 0 + n ≡ n = omega arith in e))),
+      ap (λ packets. head_packets plan ++ (packets ++ stop_packets plan))
+          (sym (flat_map-map (λ heap. heap) made (numbers 0 count))),
     )
 
 -- the packets of a heap are as many as its pieces
-pub length-packets_of : (plan : Plan) (counter : ℕ) (own : List Pointer) (payload : List ℕ) → length (packets_of plan counter own payload) ≡ piece_count plan.packet (length payload)
+pub length-packets_of : (plan : Plan) (counter : ℕ) (own : List Pointer) (payload : List ℕ)
+    → length (packets_of plan counter own payload) ≡ piece_count plan.packet (length payload)
 length-packets_of plan counter own payload =
-    length-map (numbers 0 (piece_count plan.packet (length payload))) (λ k. heap_packet counter (length payload) own (k * plan.packet) (take plan.packet (drop (k * plan.packet) payload)))
+    length-map (numbers 0 (piece_count plan.packet (length payload)))
+    (λ k. heap_packet counter (length payload) own (k * plan.packet)
+    (take plan.packet (drop (k * plan.packet) payload)))
     ∙ length-numbers 0 (piece_count plan.packet (length payload))
 
 -- the k-th packet of a heap
-pub packet_at : (plan : Plan) (counter : ℕ) (own : List Pointer) (payload : List ℕ) (k : ℕ) → k < piece_count plan.packet (length payload)
-    → slice_get (packets_of plan counter own payload) k ≡ Some (heap_packet counter (length payload) own (k * plan.packet) (take plan.packet (drop (k * plan.packet) payload)))
+pub packet_at : (plan : Plan) (counter : ℕ) (own : List Pointer) (payload : List ℕ) (k : ℕ)
+    → k < piece_count plan.packet (length payload)
+    → slice_get (packets_of plan counter own payload) k
+    ≡ Some (heap_packet counter (length payload) own (k * plan.packet)
+    (take plan.packet (drop (k * plan.packet) payload)))
 packet_at plan counter own payload k below =
     let count = piece_count plan.packet (length payload) in
-    let piece : ℕ → List ℕ = λ m. heap_packet counter (length payload) own (m * plan.packet) (take plan.packet (drop (m * plan.packet) payload)) in
-    slice_get-get_or (packets_of plan counter own payload) k [] (omega (arith, length-packets_of plan counter own payload))
-    ∙ ap Some (get_or-map piece (numbers 0 count) k 0 [] (omega (arith, length-numbers 0 count)) ∙ ap piece (get_or-numbers 0 count k 0 below ∙ (let e : 0 + k ≡ k = omega arith in e)))
+    let piece : ℕ → List ℕ =
+    λ m. heap_packet counter (length payload) own (m * plan.packet)
+    (take plan.packet (drop (m * plan.packet) payload)) in
+    slice_get-get_or (packets_of plan counter own payload) k []
+    (omega (arith, length-packets_of plan counter own payload))
+    ∙ ap Some (get_or-map piece (numbers 0 count) k 0 [] (omega (arith, length-numbers 0 count)) ∙ ap piece
+    (get_or-numbers 0 count k 0 below ∙ (let e : 0 + k ≡ k = omega arith in e)))

@@ -72,8 +72,10 @@ alike_both a b c d h k = grind (arith, nat_tests)
 
 front_refusal-passed : (bytes : List ℕ) → IsFront bytes → front_refusal bytes ≡ None
 front_refusal-passed bytes h =
-    skipped _ Short _ (not_under _ _ h.header) (skipped _ Magic _ (alike _ _ h.magic) (skipped _ Version _ (alike _ _ h.version)
-    (skipped _ Flavour _ (alike_both _ _ _ _ h.pointer_width h.address_width) (skipped _ Pointers _ (not_under _ _ h.long) refl))))
+    skipped _ Short _ (not_under _ _ h.header)
+    (skipped _ Magic _ (alike _ _ h.magic) (skipped _ Version _ (alike _ _ h.version)
+    (skipped _ Flavour _ (alike_both _ _ _ _ h.pointer_width h.address_width)
+    (skipped _ Pointers _ (not_under _ _ h.long) refl))))
 
 -- the special pointers say enough, and what agrees with the bytes found
 pub record IsSaid (ps : List Pointer) (found : ℕ) : Type 0 where
@@ -95,14 +97,16 @@ no_excess : (size : Option ℕ) (end : ℕ) → IfSome size (λ s. end ≤ s) �
 no_excess None end h = not_under end end (omega arith)
 no_excess (Some s) end h = not_under s end h
 
-length_passed : (size : Option ℕ) (offset claimed found : ℕ) → length_refusal size offset claimed found ≡ None → (claimed ≡ found) × IfSome size (λ s. offset + found ≤ s)
+length_passed : (size : Option ℕ) (offset claimed found : ℕ) → length_refusal size offset claimed found ≡ None
+    → (claimed ≡ found) × IfSome size (λ s. offset + found ≤ s)
 length_passed size offset claimed found h =
     let first = passes _ _ _ h in
     let second = passes _ _ _ first.1 in
     let equal = same _ _ first.0 in
     (equal, subst (λ (n : ℕ). IfSome size (λ s. offset + n ≤ s)) equal (room size (offset + claimed) second.0))
 
-length_refusal-passed : (size : Option ℕ) (offset found : ℕ) → IfSome size (λ s. offset + found ≤ s) → length_refusal size offset found found ≡ None
+length_refusal-passed : (size : Option ℕ) (offset found : ℕ) → IfSome size (λ s. offset + found ≤ s)
+    → length_refusal size offset found found ≡ None
 length_refusal-passed size offset found h =
     skipped _ (Length found found) _ (alike _ _ refl) (skipped _ PastHeap _ (no_excess size (offset + found) h) refl)
 
@@ -111,7 +115,8 @@ IsSaid-passed ps found h =
     let counter = passes _ _ _ h in
     let offset = passes _ _ _ counter.1 in
     let claimed = passes _ _ _ offset.1 in
-    let size = length_passed (last_value 2 ps) (unwrap_or (last_value 3 ps) 0) (unwrap_or (last_value 4 ps) 0) found claimed.1 in
+    let size = length_passed (last_value 2 ps) (unwrap_or (last_value 3 ps) 0) (unwrap_or (last_value 4 ps) 0)
+    found claimed.1 in
     record {
       counter = is_there (last_value 1 ps) counter.0;
       offset = is_there (last_value 3 ps) offset.0;
@@ -127,13 +132,16 @@ said_refusal-passed : (ps : List Pointer) (found : ℕ) → IsSaid ps found → 
 said_refusal-passed ps found h =
     let claimed : unwrap_or (last_value 4 ps) 0 ≡ found = ap (λ (o : Option ℕ). unwrap_or o 0) h.length_said in
     let size = length_refusal-passed (last_value 2 ps) (unwrap_or (last_value 3 ps) 0) found h.within in
-    let last : length_refusal (last_value 2 ps) (unwrap_or (last_value 3 ps) 0) (unwrap_or (last_value 4 ps) 0) found ≡ None
+    let last : length_refusal (last_value 2 ps) (unwrap_or (last_value 3 ps) 0) (unwrap_or (last_value 4 ps) 0) found
+    ≡ None
     = ap (λ (n : ℕ). length_refusal (last_value 2 ps) (unwrap_or (last_value 3 ps) 0) n found) claimed ∙ size in
-    skipped _ NoCounter _ (absent_not _ _ h.counter) (skipped _ NoOffset _ (absent_not _ _ h.offset) (skipped _ NoLength _ (absent_not _ _ h.length_said) last))
+    skipped _ NoCounter _ (absent_not _ _ h.counter)
+    (skipped _ NoOffset _ (absent_not _ _ h.offset) (skipped _ NoLength _ (absent_not _ _ h.length_said) last))
 
 -- a header's eight bytes, each in its place
 split : (bytes : List ℕ) → 8 ≤ length bytes
-    → bytes ≡ (slice_index bytes 0 ∷ slice_index bytes 1 ∷ slice_index bytes 2 ∷ slice_index bytes 3 ∷ []) ++ (take 2 (drop 4 bytes) ++ (take 2 (drop 6 bytes) ++ drop 8 bytes))
+    → bytes ≡ (slice_index bytes 0 ∷ slice_index bytes 1 ∷ slice_index bytes 2 ∷ slice_index bytes 3 ∷ [])
+    ++ (take 2 (drop 4 bytes) ++ (take 2 (drop 6 bytes) ++ drop 8 bytes))
 split [] h = absurd (omega arith)
 split (a ∷ []) h = absurd (omega arith)
 split (a ∷ b ∷ []) h = absurd (omega arith)
@@ -146,18 +154,25 @@ split (a ∷ b ∷ c ∷ d ∷ e ∷ f ∷ g ∷ i ∷ rest) h = refl
 
 -- the bytes of a header that passes, with the words and the rest behind it
 whole : (bytes : List ℕ) → IsFront bytes
-    → bytes ≡ (0x53 ∷ 0x04 ∷ 0x02 ∷ 0x06 ∷ []) ++ (take 2 (drop 4 bytes) ++ (take 2 (drop 6 bytes) ++ (joined (words_in (pointer_count bytes) (drop 8 bytes)) ++ payload_in bytes)))
+    → bytes ≡ (0x53 ∷ 0x04 ∷ 0x02 ∷ 0x06 ∷ [])
+    ++ (take 2 (drop 4 bytes)
+    ++ (take 2 (drop 6 bytes) ++ (joined (words_in (pointer_count bytes) (drop 8 bytes)) ++ payload_in bytes)))
 whole bytes h =
     let after = length-drop 8 bytes in
     let words = joined-words_in (pointer_count bytes) (drop 8 bytes) (let long = h.long in omega arith) in
-    let rest : drop (8 * pointer_count bytes) (drop 8 bytes) ≡ payload_in bytes = drop-drop (8 * pointer_count bytes) 8 bytes in
+    let rest : drop (8 * pointer_count bytes) (drop 8 bytes) ≡ payload_in bytes =
+    drop-drop (8 * pointer_count bytes) 8 bytes in
     let tail : drop 8 bytes ≡ joined (words_in (pointer_count bytes) (drop 8 bytes)) ++ payload_in bytes
     = sym words ∙ ap (λ xs. joined (words_in (pointer_count bytes) (drop 8 bytes)) ++ xs) rest in
     split bytes h.header
-    ∙ ap (λ n. (n ∷ slice_index bytes 1 ∷ slice_index bytes 2 ∷ slice_index bytes 3 ∷ []) ++ (take 2 (drop 4 bytes) ++ (take 2 (drop 6 bytes) ++ drop 8 bytes))) h.magic
-    ∙ ap (λ n. (0x53 ∷ n ∷ slice_index bytes 2 ∷ slice_index bytes 3 ∷ []) ++ (take 2 (drop 4 bytes) ++ (take 2 (drop 6 bytes) ++ drop 8 bytes))) h.version
-    ∙ ap (λ n. (0x53 ∷ 0x04 ∷ n ∷ slice_index bytes 3 ∷ []) ++ (take 2 (drop 4 bytes) ++ (take 2 (drop 6 bytes) ++ drop 8 bytes))) h.pointer_width
-    ∙ ap (λ n. (0x53 ∷ 0x04 ∷ 0x02 ∷ n ∷ []) ++ (take 2 (drop 4 bytes) ++ (take 2 (drop 6 bytes) ++ drop 8 bytes))) h.address_width
+    ∙ ap (λ n. (n ∷ slice_index bytes 1 ∷ slice_index bytes 2 ∷ slice_index bytes 3 ∷ [])
+    ++ (take 2 (drop 4 bytes) ++ (take 2 (drop 6 bytes) ++ drop 8 bytes))) h.magic
+    ∙ ap (λ n. (0x53 ∷ n ∷ slice_index bytes 2 ∷ slice_index bytes 3 ∷ [])
+    ++ (take 2 (drop 4 bytes) ++ (take 2 (drop 6 bytes) ++ drop 8 bytes))) h.version
+    ∙ ap (λ n. (0x53 ∷ 0x04 ∷ n ∷ slice_index bytes 3 ∷ [])
+    ++ (take 2 (drop 4 bytes) ++ (take 2 (drop 6 bytes) ++ drop 8 bytes))) h.pointer_width
+    ∙ ap (λ n. (0x53 ∷ 0x04 ∷ 0x02 ∷ n ∷ []) ++ (take 2 (drop 4 bytes) ++ (take 2 (drop 6 bytes) ++ drop 8 bytes)))
+    h.address_width
     ∙ ap (λ xs. (0x53 ∷ 0x04 ∷ 0x02 ∷ 0x06 ∷ []) ++ (take 2 (drop 4 bytes) ++ (take 2 (drop 6 bytes) ++ xs))) tail
 
 -- bytes that are not refused spell what is read of them
@@ -198,7 +213,8 @@ pub record IsPlaced (bytes count tail : List ℕ) : Type 0 where
   pub said : pointer_count bytes ≡ big count
   pub behind : drop 8 bytes ≡ tail
 
-placed : (reserved count tail : List ℕ) → length reserved ≡ 2 → length count ≡ 2 → IsPlaced ((0x53 ∷ 0x04 ∷ 0x02 ∷ 0x06 ∷ []) ++ (reserved ++ (count ++ tail))) count tail
+placed : (reserved count tail : List ℕ) → length reserved ≡ 2 → length count ≡ 2
+    → IsPlaced ((0x53 ∷ 0x04 ∷ 0x02 ∷ 0x06 ∷ []) ++ (reserved ++ (count ++ tail))) count tail
 placed [] count tail h k = absurd (omega arith)
 placed (a ∷ []) count tail h k = absurd (omega arith)
 placed (a ∷ b ∷ c ∷ more) count tail h k = absurd (omega arith)
@@ -215,7 +231,8 @@ placed (a ∷ b ∷ []) (c ∷ d ∷ []) tail h k = record {
   behind = refl;
 }
 
-same_parts : (p q : Parts) → p.counter ≡ q.counter → p.size ≡ q.size → p.offset ≡ q.offset → p.pointers ≡ q.pointers → p.payload ≡ q.payload → p ≡ q
+same_parts : (p q : Parts) → p.counter ≡ q.counter → p.size ≡ q.size → p.offset ≡ q.offset → p.pointers ≡ q.pointers
+    → p.payload ≡ q.payload → p ≡ q
 same_parts p q c s o ps b =
     λ i. record { counter = c i; size = s i; offset = o i; pointers = ps i; payload = b i }
 
@@ -235,13 +252,17 @@ record IsRead (bytes : List ℕ) (p : Parts) (words : List (List ℕ)) : Type 0 
 read : (bytes : List ℕ) (p : Parts) (s : Spells bytes p) → IsRead bytes p s.words
 read bytes p s =
     let tail = joined s.words ++ p.payload in
-    let places = subst (λ bs. IsPlaced bs s.count tail) (sym s.whole) (placed s.reserved s.count tail s.reserved_two s.count_two) in
+    let places = subst (λ bs. IsPlaced bs s.count tail) (sym s.whole)
+    (placed s.reserved s.count tail s.reserved_two s.count_two) in
     let count : pointer_count bytes ≡ length s.words = places.said ∙ s.as_many in
     let words : words_in (pointer_count bytes) (drop 8 bytes) ≡ s.words
-    = ap (λ n. words_in n (drop 8 bytes)) count ∙ ap (λ xs. words_in (length s.words) xs) places.behind ∙ words_in-joined s.words p.payload s.eights in
+    = ap (λ n. words_in n (drop 8 bytes)) count ∙ ap (λ xs. words_in (length s.words) xs) places.behind ∙
+    words_in-joined s.words p.payload s.eights in
     let size = length-joined s.words s.eights in
     let payload : payload_in bytes ≡ p.payload
-    = sym (drop-drop (8 * pointer_count bytes) 8 bytes) ∙ ap (λ n. drop (8 * n) (drop 8 bytes)) count ∙ ap (λ xs. drop (8 * length s.words) xs) places.behind ∙ drop_at (joined s.words) p.payload (8 * length s.words) size in
+    = sym (drop-drop (8 * pointer_count bytes) 8 bytes) ∙ ap (λ n. drop (8 * n) (drop 8 bytes)) count ∙ ap
+    (λ xs. drop (8 * length s.words) xs) places.behind ∙ drop_at (joined s.words) p.payload
+    (8 * length s.words) size in
     let both_sizes = length-append (joined s.words) p.payload in
     let long = places.long in
     record {
@@ -272,7 +293,8 @@ not_refused bytes p s =
       length_said = length_said ∙ ap (λ (n : ℕ). Some n) bytes_found;
       within = rw (size, value _ _ offset, ← bytes_found) s.within;
     } in
-    neither_applies _ _ (front_refusal-passed bytes r.front) (said_refusal-passed (pointers_in bytes) (length (payload_in bytes)) said)
+    neither_applies _ _ (front_refusal-passed bytes r.front)
+    (said_refusal-passed (pointers_in bytes) (length (payload_in bytes)) said)
 
 -- what is read of bytes that spell a packet is that packet
 pub again : (bytes : List ℕ) (p : Parts) → Spells bytes p → parts_in bytes ≡ p
@@ -281,7 +303,8 @@ again bytes p s =
     let counter = ap (λ ps. last_value 1 ps) r.pointers ∙ s.counter in
     let size = ap (λ ps. last_value 2 ps) r.pointers ∙ s.size in
     let offset = ap (λ ps. last_value 3 ps) r.pointers ∙ s.offset in
-    same_parts (parts_in bytes) p (value _ _ counter) size (value _ _ offset) (ap (λ ps. filter is_own ps) r.pointers ∙ sym s.own) r.payload
+    same_parts (parts_in bytes) p (value _ _ counter) size (value _ _ offset)
+    (ap (λ ps. filter is_own ps) r.pointers ∙ sym s.own) r.payload
 
 -- bytes spell at most one packet
 pub spelled_once : (bytes : List ℕ) (p q : Parts) → Spells bytes p → Spells bytes q → p ≡ q

@@ -30,7 +30,8 @@ used_is n t (Used m u) h =
 used_is n t other h = absurd cc
 
 -- a test that fails leads on
-passed : (b : Bool) (v w : Verdict) (n t : ℕ) → (v ≡ Used n t → ⊥) → cond b v w ≡ Used n t → (b ≡ false) × (w ≡ Used n t)
+passed : (b : Bool) (v w : Verdict) (n t : ℕ) → (v ≡ Used n t → ⊥) → cond b v w ≡ Used n t
+    → (b ≡ false) × (w ≡ Used n t)
 passed true v w n t other h = absurd (other h)
 passed false v w n t other h = (refl, h)
 
@@ -53,7 +54,8 @@ fresh_at plan js m u n t h =
     let here : IsFresh plan js m u = record { above = low; inside = high; fresh = fourth.0 } in
     subst (IsFresh plan js n) place (subst (λ k. IsFresh plan js k u) same here)
 
-fresh_seen : (plan : Plan) (antenna : ℕ) (js : List JudgedHeap) (o : Option Sight) (n t : ℕ) → heap_verdict plan antenna js o ≡ Used n t → IsFresh plan js n t
+fresh_seen : (plan : Plan) (antenna : ℕ) (js : List JudgedHeap) (o : Option Sight) (n t : ℕ)
+    → heap_verdict plan antenna js o ≡ Used n t → IsFresh plan js n t
 fresh_seen plan antenna js None n t h = absurd cc
 fresh_seen plan antenna js (Some s) n t h =
     let first = passed (not (eqb s.antenna antenna)) (Foreign s.antenna) _ n t (λ e. cc) h in
@@ -65,11 +67,13 @@ fresh_seen plan antenna js (Some s) n t h =
 pub fresh_used : (plan : Plan) (antenna : ℕ) (js : List JudgedHeap) (heap : WholeHeap) (o : Option Sight) (n t : ℕ)
     → is_used_at n t (judged_as plan antenna js heap o).verdict ≡ true → IsFresh plan js n t
 fresh_used plan antenna js heap o n t h =
-    let step = passed (stops heap) Stop (heap_verdict plan antenna js o) n t (λ e. cc) (used_is n t (judged_as plan antenna js heap o).verdict h) in
+    let step = passed (stops heap) Stop (heap_verdict plan antenna js o) n t (λ e. cc)
+    (used_is n t (judged_as plan antenna js heap o).verdict h) in
     fresh_seen plan antenna js o n t step.1
 
 -- an element more counts where it passes
-pub count_push : {A : Type 0} (test : A → Bool) (xs : List A) (x : A) → count_by test (xs ++ x ∷ []) ≡ count_by test xs + cond (test x) 1 0
+pub count_push : {A : Type 0} (test : A → Bool) (xs : List A) (x : A)
+    → count_by test (xs ++ x ∷ []) ≡ count_by test xs + cond (test x) 1 0
 count_push test xs x = fold_push _ 0 xs x
 
 none_counted : {A : Type 0} (test : A → Bool) (xs : List A) → list_any test xs ≡ false → count_by test xs ≡ 0
@@ -81,7 +85,8 @@ none_counted test =
     let earlier = before parts.0 in
     count_push test xs x ∙ ap (λ b. count_by test xs + cond b 1 0) fails ∙ (omega arith))
 
-at_most_one : {A : Type 0} (test : A → Bool) (xs : List A) (x : A) → count_by test xs ≤ 1 → (test x ≡ true → list_any test xs ≡ false) → count_by test (xs ++ x ∷ []) ≤ 1
+at_most_one : {A : Type 0} (test : A → Bool) (xs : List A) (x : A) → count_by test xs ≤ 1
+    → (test x ≡ true → list_any test xs ≡ false) → count_by test (xs ++ x ∷ []) ≤ 1
 at_most_one test xs x before first =
     let push = count_push test xs x in
     elim (cases_Bool (test x)) [
@@ -93,9 +98,11 @@ at_most_one test xs x before first =
     ]
 
 -- at most one heap is used at a place
-pub one_cell : (plan : Plan) (antenna : ℕ) (l : List (List ℕ)) (n t : ℕ) → count_by (λ j. is_used_at n t j.verdict) (heaps plan antenna l) ≤ 1
+pub one_cell : (plan : Plan) (antenna : ℕ) (l : List (List ℕ)) (n t : ℕ)
+    → count_by (λ j. is_used_at n t j.verdict) (heaps plan antenna l) ≤ 1
 one_cell plan antenna l n t =
-    in_turn_keeps (λ js. count_by (λ (j : JudgedHeap). is_used_at n t j.verdict) js ≤ 1) (judge_next plan antenna) (omega arith)
+    in_turn_keeps (λ js. count_by (λ (j : JudgedHeap). is_used_at n t j.verdict) js ≤ 1)
+    (judge_next plan antenna) (omega arith)
     (λ js heap before.
     at_most_one (λ (j : JudgedHeap). is_used_at n t j.verdict) js (judge_next plan antenna js heap) before
     (λ used. (fresh_used plan antenna js heap _ n t used).fresh))
@@ -104,20 +111,27 @@ one_cell plan antenna l n t =
 -- what a string more does to the heaps: nothing, or one is judged by those before it
 pub data HeapsMove (plan : Plan) (antenna : ℕ) (before after : List JudgedHeap) : Type 0 where
   Stay : after ≡ before → HeapsMove plan antenna before after
-  Grow : (heap : WholeHeap) → after ≡ before ++ judge_next plan antenna before heap ∷ [] → HeapsMove plan antenna before after
+  Grow : (heap : WholeHeap) → after ≡ before ++ judge_next plan antenna before heap ∷ []
+      → HeapsMove plan antenna before after
 
-move_whole : (plan : Plan) (antenna : ℕ) (l : List (List ℕ)) (b : List ℕ) → has_stopped plan l ≡ false → (o : Option WholeHeap)
-    → whole_in plan (l ++ b ∷ []) ≡ whole_in plan l ++ option_to_list o → HeapsMove plan antenna (heaps plan antenna l) (heaps plan antenna (l ++ b ∷ []))
+move_whole : (plan : Plan) (antenna : ℕ) (l : List (List ℕ)) (b : List ℕ) → has_stopped plan l ≡ false
+    → (o : Option WholeHeap)
+    → whole_in plan (l ++ b ∷ []) ≡ whole_in plan l ++ option_to_list o
+    → HeapsMove plan antenna (heaps plan antenna l) (heaps plan antenna (l ++ b ∷ []))
 move_whole plan antenna l b still None is =
     Stay (ap (λ ws. in_turn (judge_next plan antenna) (through_first stops ws)) (is ∙ append-nil (whole_in plan l)))
 move_whole plan antenna l b still (Some heap) is = Grow heap (heaps_push plan antenna l b heap still is)
 
-move_heard : (plan : Plan) (antenna : ℕ) (l : List (List ℕ)) (b : List ℕ) → has_stopped plan l ≡ false → length l < plan.packet_limit → (o : Option Parts)
+move_heard : (plan : Plan) (antenna : ℕ) (l : List (List ℕ)) (b : List ℕ) → has_stopped plan l ≡ false
+    → length l < plan.packet_limit → (o : Option Parts)
     → heard_in plan.heap_limit b ≡ o → HeapsMove plan antenna (heaps plan antenna l) (heaps plan antenna (l ++ b ∷ []))
 move_heard plan antenna l b still room None is = Stay (heaps_stay plan antenna l b room is)
-move_heard plan antenna l b still room (Some p) is = move_whole plan antenna l b still (whole_now plan.window (placed_in plan (l ++ b ∷ []))) (whole_in_push plan l b p room is)
+move_heard plan antenna l b still room (Some p) is =
+    move_whole plan antenna l b still (whole_now plan.window (placed_in plan (l ++ b ∷ [])))
+    (whole_in_push plan l b p room is)
 
-pub heaps_move : (plan : Plan) (antenna : ℕ) (l : List (List ℕ)) (b : List ℕ) → HeapsMove plan antenna (heaps plan antenna l) (heaps plan antenna (l ++ b ∷ []))
+pub heaps_move : (plan : Plan) (antenna : ℕ) (l : List (List ℕ)) (b : List ℕ)
+    → HeapsMove plan antenna (heaps plan antenna l) (heaps plan antenna (l ++ b ∷ []))
 heaps_move plan antenna l b =
     elim (cases_ended plan l) [
       | inl go ↦ move_heard plan antenna l b go.0 go.1 (heard_in plan.heap_limit b) refl
@@ -128,8 +142,10 @@ heaps_move plan antenna l b =
 top_rises : (plan : Plan) (js : List JudgedHeap) (j : JudgedHeap) → above_top plan js ≤ above_top plan (js ++ j ∷ [])
 top_rises plan js j =
     let push = above_top_push plan js j in
-    let more : above_top plan js ≤ cond (raises j.verdict) (max (above_top plan js) (reach plan j)) (above_top plan js) =
-    cond_both (raises j.verdict) (max (above_top plan js) (reach plan j)) (above_top plan js) (λ top. above_top plan js ≤ top) (λ e. omega arith) (λ e. omega arith) in
+    let more : above_top plan js
+    ≤ cond (raises j.verdict) (max (above_top plan js) (reach plan j)) (above_top plan js) =
+    cond_both (raises j.verdict) (max (above_top plan js) (reach plan j)) (above_top plan js)
+    (λ top. above_top plan js ≤ top) (λ e. omega arith) (λ e. omega arith) in
     omega arith
 
 floor_rises : (plan : Plan) (js : List JudgedHeap) (j : JudgedHeap) → floor_of plan js ≤ floor_of plan (js ++ j ∷ [])
@@ -142,7 +158,8 @@ pub record GrowsAbove (plan : Plan) (bound : ℕ) (before after : List JudgedHea
   pub none : (n t : ℕ) → n < bound → list_any (λ j. is_used_at n t j.verdict) more ≡ false
   pub floor_above : bound ≤ floor_of plan after
 
-grows_on : (plan : Plan) (antenna bound : ℕ) (before js after : List JudgedHeap) → GrowsAbove plan bound before js → HeapsMove plan antenna js after → GrowsAbove plan bound before after
+grows_on : (plan : Plan) (antenna bound : ℕ) (before js after : List JudgedHeap) → GrowsAbove plan bound before js
+    → HeapsMove plan antenna js after → GrowsAbove plan bound before after
 grows_on plan antenna bound before js after h (Stay same) = subst (GrowsAbove plan bound before) (sym same) h
 grows_on plan antenna bound before js after h (Grow heap grown) =
     let j = judge_next plan antenna js heap in
@@ -153,17 +170,27 @@ grows_on plan antenna bound before js after h (Grow heap grown) =
       is = ap (λ k. k ++ j ∷ []) h.is ∙ append_assoc before h.more (j ∷ []);
       none = λ n t below.
           list_any-append (λ (i : JudgedHeap). is_used_at n t i.verdict) h.more (j ∷ [])
-          ∙ or_from (list_any (λ (i : JudgedHeap). is_used_at n t i.verdict) h.more) (is_used_at n t j.verdict || false) (h.none n t below)
+          ∙ or_from (list_any (λ (i : JudgedHeap). is_used_at n t i.verdict) h.more) (is_used_at n t j.verdict || false)
+          (h.none n t below)
           (or_from (is_used_at n t j.verdict) false
-          (false_from_ne_true (is_used_at n t j.verdict) (λ used. let fresh = fresh_used plan antenna js heap _ n t used in let over = fresh.above in omega arith)) refl);
+          (false_from_ne_true (is_used_at n t j.verdict)
+          (λ used. let fresh = fresh_used plan antenna js heap _ n t used in let over = fresh.above in omega arith))
+          refl);
       floor_above = omega arith;
     } in
     subst (GrowsAbove plan bound before) (sym grown) kept
 
 -- a longer list has the same heaps, and more that are used above the floor
-pub heaps_grow : (plan : Plan) (antenna : ℕ) (l rest : List (List ℕ)) → GrowsAbove plan (floor_of plan (heaps plan antenna l)) (heaps plan antenna l) (heaps plan antenna (l ++ rest))
+pub heaps_grow : (plan : Plan) (antenna : ℕ) (l rest : List (List ℕ))
+    → GrowsAbove plan (floor_of plan (heaps plan antenna l)) (heaps plan antenna l) (heaps plan antenna (l ++ rest))
 heaps_grow plan antenna l rest =
     let bound = floor_of plan (heaps plan antenna l) in
     by_pushes_from (λ k. GrowsAbove plan bound (heaps plan antenna l) (heaps plan antenna k))
-    (λ k b h. grows_on plan antenna bound (heaps plan antenna l) (heaps plan antenna k) (heaps plan antenna (k ++ b ∷ [])) h (heaps_move plan antenna k b))
-    l rest (record { more = []; is = sym (append-nil (heaps plan antenna l)); none = λ n t below. refl; floor_above = omega arith })
+    (λ k b h. grows_on plan antenna bound (heaps plan antenna l) (heaps plan antenna k)
+    (heaps plan antenna (k ++ b ∷ [])) h (heaps_move plan antenna k b))
+    l rest (record {
+      more = [];
+      is = sym (append-nil (heaps plan antenna l));
+      none = λ n t below. refl;
+      floor_above = omega arith;
+    })

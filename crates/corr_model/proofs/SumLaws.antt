@@ -32,20 +32,24 @@ none_plus x = same_complex _ _ (omega (arith, ints)) (omega (arith, ints))
 -- a sum onto what is there
 fold_plus : (x : Complex) (ys : List Complex) → fold plus x ys ≡ plus x (total ys)
 fold_plus x [] = sym (plus_none x)
-fold_plus x (y ∷ ys) = fold_plus (plus x y) ys ∙ plus_assoc x y (total ys) ∙ ap (plus x) (sym (fold_plus y ys) ∙ ap (λ z. fold plus z ys) (sym (none_plus y)))
+fold_plus x (y ∷ ys) =
+    fold_plus (plus x y) ys ∙ plus_assoc x y (total ys) ∙ ap (plus x)
+    (sym (fold_plus y ys) ∙ ap (λ z. fold plus z ys) (sym (none_plus y)))
 
 -- the sum of two lists
 pub total_append : (xs ys : List Complex) → total (xs ++ ys) ≡ plus (total xs) (total ys)
 total_append xs ys = fold-append plus none_yet xs ys ∙ fold_plus (total xs) ys
 
 -- a range is its parts
-pub range_split : {X : Type 0} (xs : List X) (from mid to : ℕ) → from ≤ mid → mid ≤ to → slice_range xs from to ≡ slice_range xs from mid ++ slice_range xs mid to
+pub range_split : {X : Type 0} (xs : List X) (from mid to : ℕ) → from ≤ mid → mid ≤ to
+    → slice_range xs from to ≡ slice_range xs from mid ++ slice_range xs mid to
 range_split xs from mid to first second =
     let whole : to - from ≡ (mid - from) + (to - mid) = omega arith in
     let later : from + (mid - from) ≡ mid = omega arith in
     ap (λ n. take n (drop from xs)) whole
     ∙ take-add (mid - from) (to - mid) (drop from xs)
-    ∙ ap (λ ys. take (mid - from) (drop from xs) ++ take (to - mid) ys) (drop-drop (mid - from) from xs ∙ ap (λ n. drop n xs) later)
+    ∙ ap (λ ys. take (mid - from) (drop from xs) ++ take (to - mid) ys)
+    (drop-drop (mid - from) from xs ∙ ap (λ n. drop n xs) later)
 
 -- the sum of a range is the sum of its parts' sums, for any two columns
 pub parts_of_add : (plan : Plan) (x y : List Cell) (c p q from mid to : ℕ) → from ≤ mid → mid ≤ to
@@ -60,12 +64,14 @@ parts_of_add plan x y c p q from mid to first second =
 
 -- the sum of a range is the sum of its parts' sums
 pub parts_add : (plan : Plan) (lists : Lists) (n i j c p q from mid to : ℕ) → from ≤ mid → mid ≤ to
-    → plus (part plan lists n i j c p q from mid) (part plan lists n i j c p q mid to) ≡ part plan lists n i j c p q from to
+    → plus (part plan lists n i j c p q from mid) (part plan lists n i j c p q mid to)
+    ≡ part plan lists n i j c p q from to
 parts_add plan lists n i j c p q from mid to first second =
     parts_of_add plan (column plan i (lists i) n) (column plan j (lists j) n) c p q from mid to first second
 
 -- a sum depends on the two antennas' lists alone
-pub part_of_two_lists : (plan : Plan) (lists others : Lists) (n i j c p q from to : ℕ) → lists i ≡ others i → lists j ≡ others j
+pub part_of_two_lists : (plan : Plan) (lists others : Lists) (n i j c p q from to : ℕ) → lists i ≡ others i
+    → lists j ≡ others j
     → part plan lists n i j c p q from to ≡ part plan others n i j c p q from to
 part_of_two_lists plan lists others n i j c p q from to first second =
     ap₂ (λ x y. part_of plan (column plan i x n) (column plan j y n) c p q from to) first second
@@ -84,13 +90,15 @@ conjugate_plus : (x y : Complex) → plus (conjugate x) (conjugate y) ≡ conjug
 conjugate_plus x y = same_complex _ _ refl (omega (arith, ints))
 
 -- the sum of conjugates
-total_conjugate : {A : Type 0} (f g : A → Complex) → ((a : A) → g a ≡ conjugate (f a)) → (as' : List A) → total (map g as') ≡ conjugate (total (map f as'))
+total_conjugate : {A : Type 0} (f g : A → Complex) → ((a : A) → g a ≡ conjugate (f a)) → (as' : List A)
+    → total (map g as') ≡ conjugate (total (map f as'))
 total_conjugate f g each [] = refl
 total_conjugate f g each (a ∷ rest) =
     total_append (g a ∷ []) (map g rest)
     ∙ ap₂ plus (none_plus (g a) ∙ each a) (total_conjugate f g each rest)
     ∙ conjugate_plus (f a) (total (map f rest))
-    ∙ ap conjugate (sym (total_append (f a ∷ []) (map f rest) ∙ ap (λ z. plus z (total (map f rest))) (none_plus (f a))))
+    ∙ ap conjugate (sym (total_append (f a ∷ []) (map f rest) ∙ ap (λ z. plus z (total (map f rest)))
+    (none_plus (f a))))
 
 times_turned : (x y : Complex) → times_conjugate y x ≡ conjugate (times_conjugate x y)
 times_turned x y =
@@ -105,7 +113,9 @@ of_cells_turned plan c p q None None = refl
 of_cells_turned plan c p q None (Some y) = refl
 of_cells_turned plan c p q (Some x) None = refl
 of_cells_turned plan c p q (Some x) (Some y) =
-    total_conjugate (λ s. times_conjugate (sample plan x c s p) (sample plan y c s q)) (λ s. times_conjugate (sample plan y c s q) (sample plan x c s p)) (λ s. times_turned (sample plan x c s p) (sample plan y c s q)) (numbers 0 plan.spectra)
+    total_conjugate (λ s. times_conjugate (sample plan x c s p) (sample plan y c s q))
+    (λ s. times_conjugate (sample plan y c s q) (sample plan x c s p))
+    (λ s. times_turned (sample plan x c s p) (sample plan y c s q)) (numbers 0 plan.spectra)
 
 abbrev turned : Cell × Cell → Cell × Cell
 turned cells = (cells.1, cells.0)
@@ -121,7 +131,8 @@ map_map f g [] = refl
 map_map f g (x ∷ xs) = ap (λ ys. g (f x) ∷ ys) (map_map f g xs)
 
 -- the antennas turned round, for any two columns
-part_of_turned : (plan : Plan) (x y : List Cell) (c p q from to : ℕ) → part_of plan y x c q p from to ≡ conjugate (part_of plan x y c p q from to)
+part_of_turned : (plan : Plan) (x y : List Cell) (c p q from to : ℕ)
+    → part_of plan y x c q p from to ≡ conjugate (part_of plan x y c p q from to)
 part_of_turned plan x y c p q from to =
     let there : Cell × Cell → Complex = λ cells. of_cells plan c p q cells.0 cells.1 in
     let back : Cell × Cell → Complex = λ cells. of_cells plan c q p cells.0 cells.1 in
@@ -130,7 +141,8 @@ part_of_turned plan x y c p q from to =
     ∙ ap (λ zs. total (map back (take (to - from) zs))) (drop-map turned from cells)
     ∙ ap (λ zs. total (map back zs)) (take-map turned (to - from) (drop from cells))
     ∙ ap total (map_map turned back (slice_range cells from to))
-    ∙ total_conjugate there (λ cells. back (turned cells)) (λ cells. of_cells_turned plan c p q cells.0 cells.1) (slice_range cells from to)
+    ∙ total_conjugate there (λ cells. back (turned cells)) (λ cells. of_cells_turned plan c p q cells.0 cells.1)
+    (slice_range cells from to)
 
 -- the real part stays where the antennas are turned round
 pub turned_real : (plan : Plan) (lists : Lists) (n i j c p q from to : ℕ)
@@ -157,10 +169,12 @@ misses cells = cond (is_none cells.0 || is_none cells.1) 1 0
 misses_turned : (cells : Cell × Cell) → misses (turned cells) ≡ misses cells
 misses_turned cells = ap (λ b. cond b 1 0) (none_turned cells.1 cells.0)
 
-counted_turned : (count : ℕ) (zs : List (Cell × Cell)) → fold (λ n cells. n + misses cells) count (map turned zs) ≡ fold (λ n cells. n + misses cells) count zs
+counted_turned : (count : ℕ) (zs : List (Cell × Cell))
+    → fold (λ n cells. n + misses cells) count (map turned zs) ≡ fold (λ n cells. n + misses cells) count zs
 counted_turned count [] = refl
 counted_turned count (z ∷ zs) =
-    counted_turned (count + misses (turned z)) zs ∙ ap (λ n. fold (λ m cells. m + misses cells) (count + n) zs) (misses_turned z)
+    counted_turned (count + misses (turned z)) zs ∙ ap (λ n. fold (λ m cells. m + misses cells) (count + n) zs)
+    (misses_turned z)
 
 -- a missing count stays where the antennas are turned round
 pub missing_turned : (plan : Plan) (lists : Lists) (n i j : ℕ) → missing plan lists n j i ≡ missing plan lists n i j

@@ -25,7 +25,8 @@ total_push : (f : ℕ → ℕ) (count : ℕ) → total f (suc count) ≡ total f
 unfolding total
 total_push f count =
     let last : 0 + count ≡ count = omega arith in
-    ap (sum_by f) (numbers_push 0 count ∙ ap (λ k. numbers 0 count ++ k ∷ []) last) ∙ fold_push (λ (n k : ℕ). n + f k) 0 (numbers 0 count) count
+    ap (sum_by f) (numbers_push 0 count ∙ ap (λ k. numbers 0 count ++ k ∷ []) last) ∙ fold_push (λ (n k : ℕ). n + f k) 0
+    (numbers 0 count) count
 
 total_none : (f : ℕ → ℕ) → total f zero ≡ 0
 unfolding total
@@ -42,7 +43,8 @@ total_same f g (suc count) same =
     omega arith
 
 -- a sum with one term greater by one is
-total_more : (f g : ℕ → ℕ) (m count : ℕ) → m < count → g m ≡ f m + 1 → ((n : ℕ) → (m ≡ n → ⊥) → g n ≡ f n) → total g count ≡ total f count + 1
+total_more : (f g : ℕ → ℕ) (m count : ℕ) → m < count → g m ≡ f m + 1 → ((n : ℕ) → (m ≡ n → ⊥) → g n ≡ f n)
+    → total g count ≡ total f count + 1
 total_more f g m zero low one same = absurd (omega arith)
 total_more f g m (suc count) low one same =
     let a = total_push f count in
@@ -79,11 +81,13 @@ never_there n t (Used m u) h = absurd cc
 never_there n t other h = refl
 
 -- a heap that is not used fills no cell
-there_stays : (plan : Plan) (js : List JudgedHeap) (j : JudgedHeap) → is_used j.verdict ≡ false → there_in plan (js ++ j ∷ []) ≡ there_in plan js
+there_stays : (plan : Plan) (js : List JudgedHeap) (j : JudgedHeap) → is_used j.verdict ≡ false
+    → there_in plan (js ++ j ∷ []) ≡ there_in plan js
 unfolding there_at there_in
 there_stays plan js j unused =
     total_same (there_at plan.heaps js) (there_at plan.heaps (js ++ j ∷ [])) plan.accumulations
-    (λ n h. total_same (λ t. cond (is_some (cell_in js n t)) 1 0) (λ t. cond (is_some (cell_in (js ++ j ∷ []) n t)) 1 0) plan.heaps
+    (λ n h. total_same (λ t. cond (is_some (cell_in js n t)) 1 0)
+    (λ t. cond (is_some (cell_in (js ++ j ∷ []) n t)) 1 0) plan.heaps
     (λ t i. ap (λ o. cond (is_some o) 1 0) (cell_in_stays js j n t (never_there n t j.verdict unused))))
 
 other_place : (m u n t : ℕ) → (m ≡ n → u ≡ t → ⊥) → is_used_at n t (Used m u) ≡ false
@@ -96,29 +100,36 @@ other_place m u n t other =
 own_place : (m u : ℕ) → is_used_at m u (Used m u) ≡ true
 own_place m u = and_from (eqb m m) (eqb u u) (eq-eqb m m refl) (eq-eqb u u refl)
 
-none_found : (m u : ℕ) (js : List JudgedHeap) → list_any (λ j. is_used_at m u j.verdict) js ≡ false → cell_in js m u ≡ None
+none_found : (m u : ℕ) (js : List JudgedHeap) → list_any (λ j. is_used_at m u j.verdict) js ≡ false
+    → cell_in js m u ≡ None
 none_found m u [] h = refl
 none_found m u (j ∷ js) h =
     let parts = or_parts (is_used_at m u j.verdict) (list_any (λ i. is_used_at m u i.verdict) js) h in
-    ap (λ b. option_map samples_of (cond b (Some j) (find (λ i. is_used_at m u i.verdict) js))) parts.0 ∙ none_found m u js parts.1
+    ap (λ b. option_map samples_of (cond b (Some j) (find (λ i. is_used_at m u i.verdict) js))) parts.0 ∙ none_found
+    m u js parts.1
 
 -- a heap that is used fills one
-there_more : (plan : Plan) (js : List JudgedHeap) (j : JudgedHeap) (m u : ℕ) → j.verdict ≡ Used m u → m < plan.accumulations → u < plan.heaps
+there_more : (plan : Plan) (js : List JudgedHeap) (j : JudgedHeap) (m u : ℕ) → j.verdict ≡ Used m u
+    → m < plan.accumulations → u < plan.heaps
     → list_any (λ i. is_used_at m u i.verdict) js ≡ false → there_in plan (js ++ j ∷ []) ≡ there_in plan js + 1
 unfolding there_at there_in
 there_more plan js j m u is inside below fresh =
     let more = js ++ j ∷ [] in
-    let stays = λ (n t : ℕ) (other : m ≡ n → u ≡ t → ⊥). cell_in_stays js j n t (ap (is_used_at n t) is ∙ other_place m u n t other) in
+    let stays = λ (n t : ℕ) (other : m ≡ n → u ≡ t → ⊥). cell_in_stays js j n t
+    (ap (is_used_at n t) is ∙ other_place m u n t other) in
     let here : is_used_at m u j.verdict ≡ true = ap (is_used_at m u) is ∙ own_place m u in
     let none = none_found m u js fresh in
     let now : cell_in more m u ≡ Some (samples_of j) =
-    cell_in_push js j m u ∙ ap (λ o. option_or o (cond (is_used_at m u j.verdict) (Some (samples_of j)) None)) none ∙ ap (λ b. cond b (Some (samples_of j)) None) here in
+    cell_in_push js j m u ∙ ap (λ o. option_or o (cond (is_used_at m u j.verdict) (Some (samples_of j)) None)) none ∙ ap
+    (λ b. cond b (Some (samples_of j)) None) here in
     let one : cond (is_some (cell_in more m u)) 1 0 ≡ cond (is_some (cell_in js m u)) 1 0 + 1 =
     ap (λ o. cond (is_some o) 1 0) now ∙ sym (ap (λ o. cond (is_some o) 1 0 + 1) none) in
     total_more (there_at plan.heaps js) (there_at plan.heaps more) m plan.accumulations inside
-    (total_more (λ t. cond (is_some (cell_in js m t)) 1 0) (λ t. cond (is_some (cell_in more m t)) 1 0) u plan.heaps below one
+    (total_more (λ t. cond (is_some (cell_in js m t)) 1 0) (λ t. cond (is_some (cell_in more m t)) 1 0) u
+    plan.heaps below one
     (λ t other. ap (λ o. cond (is_some o) 1 0) (stays m t (λ e f. other f))))
-    (λ n other. total_same (λ t. cond (is_some (cell_in js n t)) 1 0) (λ t. cond (is_some (cell_in more n t)) 1 0) plan.heaps
+    (λ n other. total_same (λ t. cond (is_some (cell_in js n t)) 1 0)
+    (λ t. cond (is_some (cell_in more n t)) 1 0) plan.heaps
     (λ t i. ap (λ o. cond (is_some o) 1 0) (stays n t (λ e f. other e))))
 
 -- a place below the number of heaps
@@ -141,10 +152,13 @@ below_passes plan some = record {
   used = λ n k. lt-ltb (k % plan.heaps) plan.heaps (omega arith);
 }
 
-place_below : (plan : Plan) (antenna : ℕ) (js : List JudgedHeap) (heap : WholeHeap) (m u : ℕ) → 1 ≤ plan.heaps → (judge_next plan antenna js heap).verdict ≡ Used m u → u < plan.heaps
+place_below : (plan : Plan) (antenna : ℕ) (js : List JudgedHeap) (heap : WholeHeap) (m u : ℕ) → 1 ≤ plan.heaps
+    → (judge_next plan antenna js heap).verdict ≡ Used m u → u < plan.heaps
 unfolding is_below
 place_below plan antenna js heap m u some is =
-    ltb-true u plan.heaps (sym (ap (is_below plan.heaps) is) ∙ judged_passes plan (is_below plan.heaps) (below_passes plan some) antenna js heap)
+    ltb-true u plan.heaps
+    (sym (ap (is_below plan.heaps) is) ∙ judged_passes plan (is_below plan.heaps) (below_passes plan some)
+    antenna js heap)
 
 -- as many heaps are used as cells are there
 AreAsMany : Plan → List JudgedHeap → Type 0
@@ -152,9 +166,12 @@ AreAsMany plan js = count_by (λ j. is_used j.verdict) js ≡ there_in plan js
 
 many_none : (plan : Plan) → AreAsMany plan []
 unfolding AreAsMany there_at there_in
-many_none plan = sym (total_zero (there_at plan.heaps []) plan.accumulations (λ n. total_zero (λ t. cond (is_some (cell_in [] n t)) 1 0) plan.heaps (λ t. refl)))
+many_none plan = sym
+    (total_zero (there_at plan.heaps []) plan.accumulations
+    (λ n. total_zero (λ t. cond (is_some (cell_in [] n t)) 1 0) plan.heaps (λ t. refl)))
 
-many_step : (plan : Plan) (antenna : ℕ) (js : List JudgedHeap) (heap : WholeHeap) → 1 ≤ plan.heaps → AreAsMany plan js → (v : Verdict) → (judge_next plan antenna js heap).verdict ≡ v
+many_step : (plan : Plan) (antenna : ℕ) (js : List JudgedHeap) (heap : WholeHeap) → 1 ≤ plan.heaps → AreAsMany plan js
+    → (v : Verdict) → (judge_next plan antenna js heap).verdict ≡ v
     → AreAsMany plan (js ++ judge_next plan antenna js heap ∷ [])
 unfolding AreAsMany
 many_step plan antenna js heap some before (Used m u) is =
@@ -174,7 +191,8 @@ many_step plan antenna js heap some before other is =
 
 -- as many strings are reported used as cells are there
 pub used_cells : (plan : Plan) (antenna : ℕ) (l : List (List ℕ)) → 1 ≤ plan.heaps
-    → count_by is_used (packet_verdicts plan antenna l) ≡ sum_by (λ n. count_by is_some (column plan antenna l n)) (numbers 0 plan.accumulations)
+    → count_by is_used (packet_verdicts plan antenna l)
+    ≡ sum_by (λ n. count_by is_some (column plan antenna l n)) (numbers 0 plan.accumulations)
 unfolding AreAsMany there_at there_in total
 used_cells plan antenna l some =
     let js = heaps plan antenna l in

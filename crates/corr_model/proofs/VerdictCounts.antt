@@ -32,14 +32,18 @@ length-fronts [] = refl
 length-fronts (x ∷ xs) = ap suc (length-map (fronts xs) (λ front. x ∷ front) ∙ length-fronts xs)
 
 -- a verdict for each string that counts
-pub length-packet_verdicts : (plan : Plan) (antenna : ℕ) (l : List (List ℕ)) → length (packet_verdicts plan antenna l) ≡ length (taken plan l)
-length-packet_verdicts plan antenna l = length-map (fronts (taken plan l)) (packet_verdict plan antenna) ∙ length-fronts (taken plan l)
+pub length-packet_verdicts : (plan : Plan) (antenna : ℕ) (l : List (List ℕ))
+    → length (packet_verdicts plan antenna l) ≡ length (taken plan l)
+length-packet_verdicts plan antenna l =
+    length-map (fronts (taken plan l)) (packet_verdict plan antenna) ∙ length-fronts (taken plan l)
 
 -- the tests that this verdict passes
 passed : Verdict → ℕ
 passed v =
-    cond (is_refused v) 1 0 + cond (is_dropped v) 1 0 + cond (is_stale v) 1 0 + cond (is_undescribed v) 1 0 + cond (is_foreign v) 1 0 + cond (is_before_start v) 1 0 + cond (is_off_grid v) 1 0
-    + cond (is_wild v) 1 0 + cond (is_beyond v) 1 0 + cond (is_late v) 1 0 + cond (is_twice v) 1 0 + cond (is_used v) 1 0 + cond (is_part v) 1 0 + cond (is_stop v) 1 0
+    cond (is_refused v) 1 0 + cond (is_dropped v) 1 0 + cond (is_stale v) 1 0 + cond (is_undescribed v) 1 0
+    + cond (is_foreign v) 1 0 + cond (is_before_start v) 1 0 + cond (is_off_grid v) 1 0
+    + cond (is_wild v) 1 0 + cond (is_beyond v) 1 0 + cond (is_late v) 1 0 + cond (is_twice v) 1 0
+    + cond (is_used v) 1 0 + cond (is_part v) 1 0 + cond (is_stop v) 1 0
 
 one_passed : (v : Verdict) → passed v ≡ 1
 unfolding passed
@@ -61,8 +65,10 @@ one_passed (verdicts.Used n t) = refl
 -- the verdicts that pass each test
 counts : List Verdict → ℕ
 counts vs =
-    count_by is_refused vs + count_by is_dropped vs + count_by is_stale vs + count_by is_undescribed vs + count_by is_foreign vs + count_by is_before_start vs + count_by is_off_grid vs
-    + count_by is_wild vs + count_by is_beyond vs + count_by is_late vs + count_by is_twice vs + count_by is_used vs + count_by is_part vs + count_by is_stop vs
+    count_by is_refused vs + count_by is_dropped vs + count_by is_stale vs + count_by is_undescribed vs
+    + count_by is_foreign vs + count_by is_before_start vs + count_by is_off_grid vs
+    + count_by is_wild vs + count_by is_beyond vs + count_by is_late vs + count_by is_twice vs + count_by is_used vs
+    + count_by is_part vs + count_by is_stop vs
 
 counts_push : (vs : List Verdict) (v : Verdict) → counts (vs ++ v ∷ []) ≡ counts vs + passed v
 unfolding counts passed
@@ -90,12 +96,15 @@ none_counted = refl
 counts_all : (vs : List Verdict) → counts vs ≡ length vs
 counts_all =
     by_pushes (λ vs. counts vs ≡ length vs) none_counted
-    (λ vs v before. counts_push vs v ∙ ap (λ n. n + passed v) before ∙ ap (λ n. length vs + n) (one_passed v) ∙ sym (length_push vs v))
+    (λ vs v before. counts_push vs v ∙ ap (λ n. n + passed v) before ∙ ap (λ n. length vs + n) (one_passed v) ∙ sym
+    (length_push vs v))
 
 -- each verdict is counted once
 pub each_counted : (vs : List Verdict)
-    → count_by is_refused vs + count_by is_dropped vs + count_by is_stale vs + count_by is_undescribed vs + count_by is_foreign vs + count_by is_before_start vs + count_by is_off_grid vs
-    + count_by is_wild vs + count_by is_beyond vs + count_by is_late vs + count_by is_twice vs + count_by is_used vs + count_by is_part vs + count_by is_stop vs ≡ length vs
+    → count_by is_refused vs + count_by is_dropped vs + count_by is_stale vs + count_by is_undescribed vs
+    + count_by is_foreign vs + count_by is_before_start vs + count_by is_off_grid vs
+    + count_by is_wild vs + count_by is_beyond vs + count_by is_late vs + count_by is_twice vs + count_by is_used vs
+    + count_by is_part vs + count_by is_stop vs ≡ length vs
 unfolding counts
 each_counted vs = counts_all vs
 
@@ -117,27 +126,33 @@ pub record PassesHeaps (plan : Plan) (test : Verdict → Bool) : Type 0 where
   pub twice : test verdicts.Twice ≡ true
   pub used : (n k : ℕ) → test (verdicts.Used n (k % plan.heaps)) ≡ true
 
-at_place : (plan : Plan) (test : Verdict → Bool) → PassesHeaps plan test → (js : List JudgedHeap) (n k : ℕ) → test (verdict_at plan js n (k % plan.heaps)) ≡ true
+at_place : (plan : Plan) (test : Verdict → Bool) → PassesHeaps plan test → (js : List JudgedHeap) (n k : ℕ)
+    → test (verdict_at plan js n (k % plan.heaps)) ≡ true
 at_place plan test h js n k =
     let t = k % plan.heaps in
     either test (ltb 0 plan.leap && leb (above_top plan js + plan.leap) n) verdicts.Wild _ h.wild
     (either test (leb plan.accumulations n) verdicts.Beyond _ h.beyond
     (either test (ltb n (floor_of plan js)) verdicts.Late _ h.late
-    (either test (list_any (λ j. is_used_at n t j.verdict) js) verdicts.Twice (verdicts.Used n t) h.twice (h.used n k))))
+    (either test (list_any (λ j. is_used_at n t j.verdict) js) verdicts.Twice (verdicts.Used n t) h.twice
+    (h.used n k))))
 
-heap_verdict_passes : (plan : Plan) (test : Verdict → Bool) → PassesHeaps plan test → (antenna : ℕ) (js : List JudgedHeap) (o : Option Sight) → test (heap_verdict plan antenna js o) ≡ true
+heap_verdict_passes : (plan : Plan) (test : Verdict → Bool) → PassesHeaps plan test
+    → (antenna : ℕ) (js : List JudgedHeap) (o : Option Sight) → test (heap_verdict plan antenna js o) ≡ true
 heap_verdict_passes plan test h antenna js None = h.undescribed
 heap_verdict_passes plan test h antenna js (Some s) =
     let k = grid plan s.timestamp in
     either test (not (eqb s.antenna antenna)) (verdicts.Foreign s.antenna) _ (h.foreign s.antenna)
     (either test (ltb s.timestamp plan.start) verdicts.BeforeStart _ h.before
-    (either test (not (eqb ((s.timestamp - plan.start) % plan.step) 0)) verdicts.OffGrid _ h.offgrid (at_place plan test h js (k / plan.heaps) k)))
+    (either test (not (eqb ((s.timestamp - plan.start) % plan.step) 0)) verdicts.OffGrid _ h.offgrid
+    (at_place plan test h js (k / plan.heaps) k)))
 
 -- so the verdict on a judged heap passes
-pub judged_passes : (plan : Plan) (test : Verdict → Bool) → PassesHeaps plan test → (antenna : ℕ) (js : List JudgedHeap) (heap : WholeHeap) → test (judge_next plan antenna js heap).verdict ≡ true
+pub judged_passes : (plan : Plan) (test : Verdict → Bool) → PassesHeaps plan test
+    → (antenna : ℕ) (js : List JudgedHeap) (heap : WholeHeap) → test (judge_next plan antenna js heap).verdict ≡ true
 judged_passes plan test h antenna js heap =
     let seen = (judge_next plan antenna js heap).seen in
-    either test (stops heap) verdicts.Stop (heap_verdict plan antenna js seen) h.stop (heap_verdict_passes plan test h antenna js seen)
+    either test (stops heap) verdicts.Stop (heap_verdict plan antenna js seen) h.stop
+    (heap_verdict_passes plan test h antenna js seen)
 
 of_heaps_pass : (plan : Plan) → PassesHeaps plan is_of_heap
 of_heaps_pass plan = record {
@@ -168,7 +183,8 @@ record Brings (plan : Plan) (antenna : ℕ) (l : List (List ℕ)) (b : List ℕ)
   judged : heaps plan antenna (l ++ b ∷ []) ≡ heaps plan antenna l ++ more
   said : filter is_of_heap (packet_verdict plan antenna (l ++ b ∷ []) ∷ []) ≡ map (λ j. j.verdict) more
 
-brings_none : (plan : Plan) (antenna : ℕ) (l : List (List ℕ)) (b : List ℕ) → heaps plan antenna (l ++ b ∷ []) ≡ heaps plan antenna l
+brings_none : (plan : Plan) (antenna : ℕ) (l : List (List ℕ)) (b : List ℕ)
+    → heaps plan antenna (l ++ b ∷ []) ≡ heaps plan antenna l
     → is_of_heap (packet_verdict plan antenna (l ++ b ∷ [])) ≡ false → Brings plan antenna l b
 brings_none plan antenna l b same none = record {
   more = [];
@@ -176,9 +192,11 @@ brings_none plan antenna l b same none = record {
   said = ap (λ t. cond t (packet_verdict plan antenna (l ++ b ∷ []) ∷ []) []) none;
 }
 
-brings_one : (plan : Plan) (antenna : ℕ) (l : List (List ℕ)) (b : List ℕ) (heap : WholeHeap) → has_stopped plan l ≡ false
+brings_one : (plan : Plan) (antenna : ℕ) (l : List (List ℕ)) (b : List ℕ) (heap : WholeHeap)
+    → has_stopped plan l ≡ false
     → whole_in plan (l ++ b ∷ []) ≡ whole_in plan l ++ heap ∷ []
-    → packet_verdict plan antenna (l ++ b ∷ []) ≡ verdict_of_last (last_one (heaps plan antenna (l ++ b ∷ []))) → Brings plan antenna l b
+    → packet_verdict plan antenna (l ++ b ∷ []) ≡ verdict_of_last (last_one (heaps plan antenna (l ++ b ∷ [])))
+    → Brings plan antenna l b
 brings_one plan antenna l b heap open_yet whole is =
     let js = heaps plan antenna l in
     let judge = judge_next plan antenna js heap in
@@ -187,21 +205,27 @@ brings_one plan antenna l b heap open_yet whole is =
     record {
       more = judge ∷ [];
       judged = grown;
-      said = ap (λ v. filter is_of_heap (v ∷ [])) last ∙ ap (λ t. cond t (judge.verdict ∷ []) []) (judged_passes plan is_of_heap (of_heaps_pass plan) antenna js heap);
+      said = ap (λ v. filter is_of_heap (v ∷ [])) last ∙ ap (λ t. cond t (judge.verdict ∷ []) [])
+          (judged_passes plan is_of_heap (of_heaps_pass plan) antenna js heap);
     }
 
 -- what a heard packet brings, by what its heap is at it
-by_whole : (plan : Plan) (antenna : ℕ) (l : List (List ℕ)) (b : List ℕ) (ms : List PlacedPacket) (counter : ℕ) → has_stopped plan l ≡ false → (s : Standing)
+by_whole : (plan : Plan) (antenna : ℕ) (l : List (List ℕ)) (b : List ℕ) (ms : List PlacedPacket) (counter : ℕ)
+    → has_stopped plan l ≡ false → (s : Standing)
     → whole_in plan (l ++ b ∷ []) ≡ whole_in plan l ++ option_to_list (heap_at counter s)
-    → packet_verdict plan antenna (l ++ b ∷ []) ≡ verdict_by (heaps plan antenna (l ++ b ∷ [])) (by_standing counter ms s) → Brings plan antenna l b
+    → packet_verdict plan antenna (l ++ b ∷ [])
+    ≡ verdict_by (heaps plan antenna (l ++ b ∷ [])) (by_standing counter ms s) → Brings plan antenna l b
 by_whole plan antenna l b ms counter open_yet Before whole is =
     brings_none plan antenna l b (heaps_same plan antenna l (l ++ b ∷ []) (whole ∙ append-nil (whole_in plan l)))
     (ap is_of_heap is ∙ unfinished (heaps plan antenna (l ++ b ∷ [])) (last_one (fates ms)))
 by_whole plan antenna l b ms counter open_yet After whole is =
-    brings_none plan antenna l b (heaps_same plan antenna l (l ++ b ∷ []) (whole ∙ append-nil (whole_in plan l))) (ap is_of_heap is)
-by_whole plan antenna l b ms counter open_yet (Whole front) whole is = brings_one plan antenna l b (heap_of counter (kept front)) open_yet whole is
+    brings_none plan antenna l b (heaps_same plan antenna l (l ++ b ∷ []) (whole ∙ append-nil (whole_in plan l)))
+    (ap is_of_heap is)
+by_whole plan antenna l b ms counter open_yet (Whole front) whole is =
+    brings_one plan antenna l b (heap_of counter (kept front)) open_yet whole is
 
-by_limit : (plan : Plan) (antenna : ℕ) (l : List (List ℕ)) (b : List ℕ) → has_stopped plan l ≡ false → length l < plan.packet_limit → (p : Parts) → packet_in b ≡ Some p
+by_limit : (plan : Plan) (antenna : ℕ) (l : List (List ℕ)) (b : List ℕ) → has_stopped plan l ≡ false
+    → length l < plan.packet_limit → (p : Parts) → packet_in b ≡ Some p
     → (within : Bool) → is_within plan.heap_limit p ≡ within → Brings plan antenna l b
 by_limit plan antenna l b open_yet room p read true within =
     let window = plan.window in
@@ -210,31 +234,43 @@ by_limit plan antenna l b open_yet room p read true within =
     let ms = members_with window ps next in
     let js = heaps plan antenna (l ++ b ∷ []) in
     let is = heard_by plan.heap_limit b p read within in
-    let same : placed_in plan (l ++ b ∷ []) ≡ ps = placed_in_push plan l b p room is ∙ sym (placed_push window (heard plan l) p) in
+    let same : placed_in plan (l ++ b ∷ []) ≡ ps =
+    placed_in_push plan l b p room is ∙ sym (placed_push window (heard plan l) p) in
     let now : whole_now window (placed_in plan (l ++ b ∷ [])) ≡ whole_with window ps next =
-    ap (whole_now window) same ∙ ap (option_and_then (whole_with window ps)) (ap last_one (placed_push window (heard plan l) p) ∙ last_one_push (placed_in plan l) next) in
-    by_whole plan antenna l b ms p.counter open_yet (standing ms) (whole_in_push plan l b p room is ∙ ap (λ o. whole_in plan l ++ option_to_list o) now)
-    (packet_verdict_packet plan antenna l b p room read ∙ ap (λ t. verdict_by js (cond t (outcome_with window ps next) (Dropped PastLimit))) within)
+    ap (whole_now window) same ∙ ap (option_and_then (whole_with window ps))
+    (ap last_one (placed_push window (heard plan l) p) ∙ last_one_push (placed_in plan l) next) in
+    by_whole plan antenna l b ms p.counter open_yet (standing ms)
+    (whole_in_push plan l b p room is ∙ ap (λ o. whole_in plan l ++ option_to_list o) now)
+    (packet_verdict_packet plan antenna l b p room read ∙ ap
+    (λ t. verdict_by js (cond t (outcome_with window ps next) (Dropped PastLimit))) within)
 by_limit plan antenna l b open_yet room p read false within =
     let js = heaps plan antenna (l ++ b ∷ []) in
-    let outcome = outcome_with plan.window (placed plan.window (heard plan l ++ p ∷ [])) (place_next plan.window (placed_in plan l) p) in
+    let outcome = outcome_with plan.window (placed plan.window (heard plan l ++ p ∷ []))
+    (place_next plan.window (placed_in plan l) p) in
     brings_none plan antenna l b (heaps_stay plan antenna l b room (rw read (ap (λ t. cond t (Some p) None) within)))
-    (ap is_of_heap (packet_verdict_packet plan antenna l b p room read ∙ ap (λ t. verdict_by js (cond t outcome (Dropped PastLimit))) within))
+    (ap is_of_heap (packet_verdict_packet plan antenna l b p room read ∙ ap
+    (λ t. verdict_by js (cond t outcome (Dropped PastLimit))) within))
 
-by_refusal : (plan : Plan) (antenna : ℕ) (l : List (List ℕ)) (b : List ℕ) → has_stopped plan l ≡ false → length l < plan.packet_limit → (o : Option Refusal) → refusal_of b ≡ o → Brings plan antenna l b
+by_refusal : (plan : Plan) (antenna : ℕ) (l : List (List ℕ)) (b : List ℕ) → has_stopped plan l ≡ false
+    → length l < plan.packet_limit → (o : Option Refusal) → refusal_of b ≡ o → Brings plan antenna l b
 by_refusal plan antenna l b open_yet room None none =
-    by_limit plan antenna l b open_yet room (parts_in b) (ap (λ o. cond (is_none o) (Some (parts_in b)) None) none) (is_within plan.heap_limit (parts_in b)) refl
+    by_limit plan antenna l b open_yet room (parts_in b) (ap (λ o. cond (is_none o) (Some (parts_in b)) None) none)
+    (is_within plan.heap_limit (parts_in b)) refl
 by_refusal plan antenna l b open_yet room (Some refusal) is =
     let unread : packet_in b ≡ None = ap (λ o. cond (is_none o) (Some (parts_in b)) None) is in
-    brings_none plan antenna l b (heaps_stay plan antenna l b room (rw unread refl)) (ap is_of_heap (packet_verdict_refused plan antenna l b refusal is))
+    brings_none plan antenna l b (heaps_stay plan antenna l b room (rw unread refl))
+    (ap is_of_heap (packet_verdict_refused plan antenna l b refusal is))
 
 -- the verdicts on whole heaps among those on packets
-pub of_heaps : (plan : Plan) (antenna : ℕ) (l : List (List ℕ)) → filter is_of_heap (packet_verdicts plan antenna l) ≡ map (λ j. j.verdict) (heaps plan antenna l)
+pub of_heaps : (plan : Plan) (antenna : ℕ) (l : List (List ℕ))
+    → filter is_of_heap (packet_verdicts plan antenna l) ≡ map (λ j. j.verdict) (heaps plan antenna l)
 of_heaps plan antenna =
     let least : length {A = List ℕ} [] ≤ plan.packet_limit = omega arith in
     by_pushes (λ l. filter is_of_heap (packet_verdicts plan antenna l) ≡ map (λ j. j.verdict) (heaps plan antenna l))
-    (ap (λ k. filter is_of_heap (map (packet_verdict plan antenna) (fronts k))) (taken_open plan [] (never_stopped plan) least)
-    ∙ sym (ap (λ ws. map (λ j. j.verdict) (in_turn (judge_next plan antenna) (through_first stops ws))) (whole_in_none plan)))
+    (ap (λ k. filter is_of_heap (map (packet_verdict plan antenna) (fronts k)))
+    (taken_open plan [] (never_stopped plan) least)
+    ∙ sym (ap (λ ws. map (λ j. j.verdict) (in_turn (judge_next plan antenna) (through_first stops ws)))
+    (whole_in_none plan)))
     (λ l b before. elim (cases_ended plan l) [
       | inl go ↦
           let brought = by_refusal plan antenna l b go.0 go.1 (refusal_of b) refl in
@@ -246,16 +282,19 @@ of_heaps plan antenna =
           ∙ sym (map-append (λ j. j.verdict) (heaps plan antenna l) brought.more)
           ∙ ap (map (λ j. j.verdict)) (sym brought.judged)
       | inr end ↦
-          ap (filter is_of_heap) (packet_verdicts_ended plan antenna l b end) ∙ before ∙ ap (map (λ j. j.verdict)) (sym (heaps_ended plan antenna l b end))
+          ap (filter is_of_heap) (packet_verdicts_ended plan antenna l b end) ∙ before ∙ ap (map (λ j. j.verdict))
+          (sym (heaps_ended plan antenna l b end))
     ])
 
 -- a test that only elements of the filter pass counts as many in what the filter keeps
-count_by_filter : {A : Type 0} (test keep : A → Bool) → ((x : A) → test x ≡ true → keep x ≡ true) → (xs : List A) → count_by test (filter keep xs) ≡ count_by test xs
+count_by_filter : {A : Type 0} (test keep : A → Bool) → ((x : A) → test x ≡ true → keep x ≡ true) → (xs : List A)
+    → count_by test (filter keep xs) ≡ count_by test xs
 count_by_filter test keep within =
     by_pushes (λ xs. count_by test (filter keep xs) ≡ count_by test xs) refl
     (λ xs x before. ap (count_by test) (filter-append keep xs (x ∷ [])) ∙ elim (cases_Bool (keep x)) [
       | inl keeps ↦
-          ap (λ t. count_by test (filter keep xs ++ cond t (x ∷ []) [])) keeps ∙ count_push test (filter keep xs) x ∙ ap (λ n. n + cond (test x) 1 0) before ∙ sym (count_push test xs x)
+          ap (λ t. count_by test (filter keep xs ++ cond t (x ∷ []) [])) keeps ∙ count_push test (filter keep xs) x ∙ ap
+          (λ n. n + cond (test x) 1 0) before ∙ sym (count_push test xs x)
       | inr drops ↦
           let fails : test x ≡ false = false_from_ne_true (test x) (λ h. let kept_too = within x h in cc) in
           ap (λ t. count_by test (filter keep xs ++ cond t (x ∷ []) [])) drops
@@ -265,17 +304,20 @@ count_by_filter test keep within =
     ])
 
 -- a count of what is made of each
-pub count_by_map : {A B : Type 0} (test : B → Bool) (f : A → B) (xs : List A) → count_by test (map f xs) ≡ count_by (λ x. test (f x)) xs
+pub count_by_map : {A B : Type 0} (test : B → Bool) (f : A → B) (xs : List A)
+    → count_by test (map f xs) ≡ count_by (λ x. test (f x)) xs
 count_by_map test f =
     by_pushes (λ xs. count_by test (map f xs) ≡ count_by (λ x. test (f x)) xs) refl
-    (λ xs x before. ap (count_by test) (map-append f xs (x ∷ [])) ∙ count_push test (map f xs) (f x) ∙ ap (λ n. n + cond (test (f x)) 1 0) before ∙ sym (count_push (λ y. test (f y)) xs x))
+    (λ xs x before. ap (count_by test) (map-append f xs (x ∷ [])) ∙ count_push test (map f xs) (f x) ∙ ap
+    (λ n. n + cond (test (f x)) 1 0) before ∙ sym (count_push (λ y. test (f y)) xs x))
 
 used_of_heap : (v : Verdict) → is_used v ≡ true → is_of_heap v ≡ true
 used_of_heap (verdicts.Used n t) h = refl
 used_of_heap other h = absurd cc
 
 -- as many strings are reported used as heaps are
-pub used_heaps : (plan : Plan) (antenna : ℕ) (l : List (List ℕ)) → count_by is_used (packet_verdicts plan antenna l) ≡ count_by (λ j. is_used j.verdict) (heaps plan antenna l)
+pub used_heaps : (plan : Plan) (antenna : ℕ) (l : List (List ℕ))
+    → count_by is_used (packet_verdicts plan antenna l) ≡ count_by (λ j. is_used j.verdict) (heaps plan antenna l)
 used_heaps plan antenna l =
     sym (count_by_filter is_used is_of_heap used_of_heap (packet_verdicts plan antenna l))
     ∙ ap (count_by is_used) (of_heaps plan antenna l)

@@ -77,7 +77,8 @@ bytes_of g id = unwrap_or (addressed_content g id) []
 -- id, shape, types and the first 64 bytes of the name, or why they are none
 abbrev pub read_group : Group → Result DescribedItem DescRefusal
 read_group g =
-    or_refused (form_refusal (number_item g 0x14) (length (bytes_of g 0x12)) (length (bytes_of g 0x13)) (types_of (bytes_of g 0x13)))
+    or_refused (form_refusal (number_item g 0x14) (length (bytes_of g 0x12)) (length (bytes_of g 0x13))
+    (types_of (bytes_of g 0x13)))
     (record {
       id = unwrap_or (number_item g 0x14) 0;
       shape = shape_of (bytes_of g 0x12);
@@ -109,7 +110,8 @@ addressed id offset = record { immediate = false; id = id; value = offset }
 -- the packet of these pointers and this payload, with reserved bytes of 0
 abbrev pub packet_bytes : List Pointer → List ℕ → List ℕ
 packet_bytes pointers payload =
-    (0x53 ∷ 0x04 ∷ 0x02 ∷ 0x06 ∷ 0 ∷ 0 ∷ []) ++ (bytes_high_first 2 (length pointers) ++ (flat_map word_of pointers ++ payload))
+    (0x53 ∷ 0x04 ∷ 0x02 ∷ 0x06 ∷ 0 ∷ 0 ∷ [])
+    ++ (bytes_high_first 2 (length pointers) ++ (flat_map word_of pointers ++ payload))
 
 -- a heap size as a pointer, where one is said
 abbrev pub size_pointers : Option ℕ → List Pointer
@@ -135,7 +137,8 @@ abbrev pub descriptor_packet : ℕ → List ℕ → List ℕ → List ℕ → Li
 descriptor_packet id name types shape =
     let size = length name + length types + length shape in
     packet_bytes
-    (immediate 1 1 ∷ immediate 2 size ∷ immediate 3 0 ∷ immediate 4 size ∷ immediate 0x14 id ∷ addressed 0x10 0 ∷ addressed 0x13 (length name)
+    (immediate 1 1 ∷ immediate 2 size ∷ immediate 3 0 ∷ immediate 4 size ∷ immediate 0x14 id ∷ addressed 0x10 0
+    ∷ addressed 0x13 (length name)
     ∷ addressed 0x12 (length name + length types) ∷ [])
     (name ++ (types ++ shape))
 

@@ -40,7 +40,8 @@ in_two_channels x y = x ∷ 0 ∷ 0 ∷ 0 ∷ y ∷ 0 ∷ 0 ∷ 0 ∷ []
 -- antenna 0 with 1 and 2 in its two channels, antenna 1 with 3 and 4
 abbrev pub one_to_four : ℕ → List (List ℕ)
 one_to_four antenna =
-    if antenna == 0 then voltage_heap 1 0 0 (in_two_channels 1 2) ∷ [] else voltage_heap 1 1 0 (in_two_channels 3 4) ∷ []
+    if antenna == 0 then voltage_heap 1 0 0 (in_two_channels 1 2) ∷ []
+    else voltage_heap 1 1 0 (in_two_channels 3 4) ∷ []
 
 -- a whole number as product 00, and nothing in the other three products
 abbrev pub first_product : ℕ → List Complex
@@ -69,4 +70,5 @@ cut size = map (λ p. (p.offset, length p.payload)) (spelled (packets_of narrow_
 -- antenna 0 with a heap at 0, and antenna 1 with heaps at 0 and at 1
 abbrev pub other_heap_lost : ℕ → List (List ℕ)
 other_heap_lost antenna =
-    if antenna == 0 then first_packet ∷ [] else voltage_heap 1 1 0 other_samples ∷ voltage_heap 2 1 1 second_samples ∷ []
+    if antenna == 0 then first_packet ∷ []
+    else voltage_heap 1 1 0 other_samples ∷ voltage_heap 2 1 1 second_samples ∷ []

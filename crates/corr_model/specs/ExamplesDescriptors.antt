@@ -66,7 +66,8 @@ missing_many dimensions types = missing_with (replicate dimensions (Fixed 5)) (r
 -- a descriptor of voltages with id, name and a description in numpy's form alone
 abbrev pub unreadable_voltages : List ℕ
 unreadable_voltages =
-    example_packet 1 (Some 3) 0 (immediate 0x14 0x4300 ∷ addressed 0x10 0 ∷ addressed 0x15 1 ∷ []) (118 ∷ 123 ∷ 125 ∷ [])
+    example_packet 1 (Some 3) 0 (immediate 0x14 0x4300 ∷ addressed 0x10 0 ∷ addressed 0x15 1 ∷ [])
+    (118 ∷ 123 ∷ 125 ∷ [])
 
 -- 'an unreadable redescription': its heap, and then a voltage heap
 abbrev pub redescribed : List (List ℕ)

@@ -25,11 +25,13 @@ voltage_items plan =
 -- the heap of these descriptor contents in one packet
 abbrev pub descriptor_heap : ℕ → List (List ℕ) → List ℕ
 descriptor_heap counter contents =
-    example_packet counter (Some (length (flat_map (λ c. c) contents))) 0 (descriptor_pointers 0 contents) (flat_map (λ c. c) contents)
+    example_packet counter (Some (length (flat_map (λ c. c) contents))) 0 (descriptor_pointers 0 contents)
+    (flat_map (λ c. c) contents)
 
 -- heaps of antenna 0 at these timestamps, with counters from 1
 abbrev pub heaps_at : List ℕ → List (List ℕ)
-heaps_at timestamps = map (λ ct. voltage_heap ct.0 0 ct.1 first_samples) (zip (numbers 1 (length timestamps)) timestamps)
+heaps_at timestamps =
+    map (λ ct. voltage_heap ct.0 0 ct.1 first_samples) (zip (numbers 1 (length timestamps)) timestamps)
 
 -- a plan that describes nothing beforehand
 abbrev pub undescribed_plan : Plan
@@ -38,7 +40,8 @@ undescribed_plan = record small_plan { preset = false }
 -- 'undescribed until described': a heap at 0, a heap with the three descriptors, a heap at 1
 abbrev pub described_late : List (List ℕ)
 described_late =
-    first_packet ∷ descriptor_heap 2 (map descriptor_bytes (voltage_items undescribed_plan)) ∷ voltage_heap 3 0 1 second_samples ∷ []
+    first_packet ∷ descriptor_heap 2 (map descriptor_bytes (voltage_items undescribed_plan))
+    ∷ voltage_heap 3 0 1 second_samples ∷ []
 
 -- a voltage heap that brings the three descriptors, and its samples in front of them
 abbrev pub self_described : List ℕ
@@ -136,7 +139,8 @@ described_in_two_heaps = descriptor_heap 1 (described_ids 1 40) ∷ descriptor_h
 
 -- for each heard packet, the counter of the heap that it evicts
 abbrev pub evicted_in_turn : Plan → List (List ℕ) → List (Option ℕ)
-evicted_in_turn plan l = map (λ q. next_evicted plan.window (take q.place (placed_in plan l)) q.packet) (placed_in plan l)
+evicted_in_turn plan l =
+    map (λ q. next_evicted plan.window (take q.place (placed_in plan l)) q.packet) (placed_in plan l)
 
 -- a stop heap that brings a descriptor of one byte, which is none
 abbrev pub stop_with_descriptor : ℕ → List ℕ

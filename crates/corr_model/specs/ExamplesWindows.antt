@@ -29,7 +29,8 @@ opened_counters plan l = map (λ o. o.packet.counter) (openings (placed_in plan 
 
 -- for each opening, the payloads of the members of its heap
 abbrev pub member_payloads : Plan → List (List ℕ) → List (List (List ℕ))
-member_payloads plan l = map (λ o. map (λ q. q.packet.payload) (members plan.window (placed_in plan l) o)) (openings (placed_in plan l))
+member_payloads plan l =
+    map (λ o. map (λ q. q.packet.payload) (members plan.window (placed_in plan l) o)) (openings (placed_in plan l))
 
 -- for each opening, its heap's members with their causes
 abbrev pub fates_in : Plan → List (List ℕ) → List (List Fate)
@@ -142,7 +143,8 @@ byte_there bytes k = option_and_then (λ byte. byte) (slice_get bytes k)
 
 -- a heap of which nothing is kept
 abbrev pub opened_heap : ℕ → LiveHeap
-opened_heap counter = record { counter = counter; size = None; ending = 0; byte = byte_there []; pointers = []; whole = false }
+opened_heap counter =
+    record { counter = counter; size = None; ending = 0; byte = byte_there []; pointers = []; whole = false }
 
 -- a heap of which the first half is kept
 abbrev pub half_heap : ℕ → LiveHeap
@@ -150,7 +152,8 @@ half_heap counter = record (opened_heap counter) { size = Some 4; ending = 2; by
 
 -- a heap of which the other half is kept
 abbrev pub other_half_heap : ℕ → LiveHeap
-other_half_heap counter = record (opened_heap counter) { size = Some 4; ending = 4; byte = byte_there (None ∷ None ∷ Some 3 ∷ Some 4 ∷ []) }
+other_half_heap counter =
+    record (opened_heap counter) { size = Some 4; ending = 4; byte = byte_there (None ∷ None ∷ Some 3 ∷ Some 4 ∷ []) }
 
 -- the first heap of antenna 0, whole
 abbrev pub first_heap : LiveHeap

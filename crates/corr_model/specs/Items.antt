@@ -15,7 +15,8 @@ pub record Group : Type 0 where
 
 -- the least offset above this one of an addressed pointer, or the payload's end where that comes first
 abbrev pub content_end : Group → ℕ → ℕ
-content_end g offset = fold min (length g.payload) (map (λ p. p.value) (filter (λ p. not p.immediate && nat_lt offset p.value) g.pointers))
+content_end g offset =
+    fold min (length g.payload) (map (λ p. p.value) (filter (λ p. not p.immediate && nat_lt offset p.value) g.pointers))
 
 -- the content of the pointer at a place, addressed at this offset: none past the payload's end, empty where a later
 -- pointer is addressed at the same offset, else the bytes up to the next addressed offset
@@ -43,8 +44,12 @@ short_number bytes = if nat_le 1 (length bytes) && nat_le (length bytes) 8 then 
 
 -- the number of an id: an immediate item's value, or an addressed item's content of one to eight bytes
 abbrev pub number_item : Group → ℕ → Option ℕ
-number_item g id = option_and_then (λ placed. if placed.1.immediate then Some placed.1.value else option_and_then short_number (content g placed)) (item id g)
+number_item g id = option_and_then
+    (λ placed. if placed.1.immediate then Some placed.1.value else option_and_then short_number (content g placed))
+    (item id g)
 
 -- the contents of the item descriptors, in order; one that is none counts as empty
 abbrev pub descriptor_contents : Group → List (List ℕ)
-descriptor_contents g = map (λ placed. unwrap_or (content g placed) []) (filter (λ placed. not placed.1.immediate && (placed.1.id == 5)) (enumerate_from 0 g.pointers))
+descriptor_contents g =
+    map (λ placed. unwrap_or (content g placed) [])
+    (filter (λ placed. not placed.1.immediate && (placed.1.id == 5)) (enumerate_from 0 g.pointers))

@@ -1,6 +1,6 @@
 -- The heaps that a window keeps, and what they stand for.
--- SPEAD protocol definition, version 4: a heap is put together from its packets. That the heaps of the last openings are
--- kept, whole or not, and nothing of a packet that is dropped or stale, is this project's own.
+-- SPEAD protocol definition, version 4: a heap is put together from its packets. That the heaps of the last openings
+-- are kept, whole or not, and nothing of a packet that is dropped or stale, is this project's own.
 use Rattle.std.specs.Prelude.{◌≡◌, ℕ, ◌-◌, max, Bool, List, [], ◌∷◌, map, find, fold, slice_index, Option, is_some, option_map, unwrap_or}
 use Rattle.corr_model.specs.declared.pointer.Pointer.{Pointer}
 use Rattle.corr_model.specs.Lists.{last_few}
@@ -56,4 +56,5 @@ AreHeapsOf window ps (h ∷ hs) (o ∷ os) = IsHeapOf window ps h o × AreHeapsO
 
 -- the window stands for these heard packets: it keeps a heap for each of the last W openings, oldest first
 abbrev pub WindowStandsFor : ℕ → List LiveHeap → List Parts → Type 0
-WindowStandsFor window hs heard = AreHeapsOf window (placed window heard) hs (last_few window (openings (placed window heard)))
+WindowStandsFor window hs heard =
+    AreHeapsOf window (placed window heard) hs (last_few window (openings (placed window heard)))

@@ -27,7 +27,8 @@ heap_packet counter size own offset piece =
 -- one empty piece
 abbrev pub packets_of : Plan → ℕ → List Pointer → List ℕ → List (List ℕ)
 packets_of plan counter own payload =
-    map (λ k. heap_packet counter (length payload) own (k * plan.packet) (take plan.packet (drop (k * plan.packet) payload)))
+    map (λ k. heap_packet counter (length payload) own (k * plan.packet)
+    (take plan.packet (drop (k * plan.packet) payload)))
     (numbers 0 (piece_count plan.packet (length payload)))
 
 -- the output's timestamp item: an unsigned number of 48 bits named `timestamp`
@@ -60,7 +61,8 @@ missing_item plan = record {
 
 -- the payload of the descriptor heap: three descriptors of 84, 115 and 89 bytes
 abbrev pub head_payload : Plan → List ℕ
-head_payload plan = descriptor_bytes timestamp_item ++ (descriptor_bytes (visibilities_item plan) ++ descriptor_bytes (missing_item plan))
+head_payload plan = descriptor_bytes timestamp_item
+    ++ (descriptor_bytes (visibilities_item plan) ++ descriptor_bytes (missing_item plan))
 
 -- the descriptor heap, counter 1: three descriptors, each at its offset
 abbrev pub head_packets : Plan → List (List ℕ)
@@ -85,19 +87,24 @@ complex_bytes x = signed_bytes x.real ++ signed_bytes x.imaginary
 -- the values of accumulation n, by channel, baseline and product
 abbrev pub value_payload : Plan → Lists → ℕ → List ℕ
 value_payload plan lists n =
-    flat_map (λ c. flat_map (λ ij. flat_map (λ pq. complex_bytes (vis plan lists n ij.0 ij.1 c pq.0 pq.1)) products) (pairs plan.antennas)) (numbers 0 plan.channels)
+    flat_map (λ c. flat_map (λ ij. flat_map (λ pq. complex_bytes (vis plan lists n ij.0 ij.1 c pq.0 pq.1)) products)
+    (pairs plan.antennas)) (numbers 0 plan.channels)
 
 -- the missing counts of accumulation n, by baseline
 abbrev pub missing_payload : Plan → Lists → ℕ → List ℕ
-missing_payload plan lists n = flat_map (λ ij. bytes_high_first 4 (missing plan lists n ij.0 ij.1)) (pairs plan.antennas)
+missing_payload plan lists n =
+    flat_map (λ ij. bytes_high_first 4 (missing plan lists n ij.0 ij.1)) (pairs plan.antennas)
 
 -- the pointers of visibility heap n: its timestamp, its values and, after these, its missing counts
 abbrev pub visibility_pointers : Plan → ℕ → List Pointer
-visibility_pointers plan n = immediate 0x1600 (plan.start + n * plan.heaps * plan.step) ∷ addressed 0x1800 0 ∷ addressed 0x1801 (value_bytes plan) ∷ []
+visibility_pointers plan n =
+    immediate 0x1600 (plan.start + n * plan.heaps * plan.step) ∷ addressed 0x1800 0
+    ∷ addressed 0x1801 (value_bytes plan) ∷ []
 
 -- the visibility heap of accumulation n, counter n + 2
 abbrev pub heap_packets : Plan → Lists → ℕ → List (List ℕ)
-heap_packets plan lists n = packets_of plan (n + 2) (visibility_pointers plan n) (value_payload plan lists n ++ missing_payload plan lists n)
+heap_packets plan lists n =
+    packets_of plan (n + 2) (visibility_pointers plan n) (value_payload plan lists n ++ missing_payload plan lists n)
 
 -- the stop heap, counter N + 2: stream control with 2, and no payload
 abbrev pub stop_packets : Plan → List (List ℕ)
@@ -105,4 +112,5 @@ stop_packets plan = packets_of plan (plan.accumulations + 2) (immediate 6 2 ∷ 
 
 -- the whole output: the descriptor heap, the visibility heap of each accumulation in order, the stop heap
 abbrev pub output : Plan → Lists → List (List ℕ)
-output plan lists = head_packets plan ++ (flat_map (heap_packets plan lists) (numbers 0 plan.accumulations) ++ stop_packets plan)
+output plan lists = head_packets plan
+    ++ (flat_map (heap_packets plan lists) (numbers 0 plan.accumulations) ++ stop_packets plan)

@@ -48,7 +48,8 @@ outcome_with window ps q = member_outcome q.packet.counter (members_with window 
 -- what a packet is after these heard packets: dropped past the limit, else what it is to its heap
 abbrev pub next_outcome : ℕ → ℕ → List Parts → Parts → Outcome
 next_outcome limit window h p =
-    if is_within limit p then outcome_with window (placed window (h ++ p ∷ [])) (place_next window (placed window h) p) else Dropped PastLimit
+    if is_within limit p then outcome_with window (placed window (h ++ p ∷ [])) (place_next window (placed window h) p)
+    else Dropped PastLimit
 
 -- the heap that is whole at the packet, if one is
 abbrev pub heap_made : Outcome → Option WholeHeap
@@ -59,11 +60,16 @@ heap_made (Dropped cause) = None
 
 -- the opening that has to leave the window at the next one: the one W openings before it, if there are so many
 abbrev pub leaving : ℕ → List PlacedPacket → Option PlacedPacket
-leaving window before = if nat_lt (length (openings before)) window then None else slice_get (openings before) (length (openings before) - window)
+leaving window before =
+    if nat_lt (length (openings before)) window then None
+    else slice_get (openings before) (length (openings before) - window)
 
--- after these packets, the counter of the heap that an opening evicts: that of the heap that leaves, where it is not whole
+-- after these packets, the counter of the heap that an opening
+-- evicts: that of the heap that leaves, where it is not whole
 abbrev pub evicted_of : ℕ → List PlacedPacket → Option ℕ
-evicted_of window before = option_and_then (λ o. if is_some (whole_front (members window before o)) then None else Some o.packet.counter) (leaving window before)
+evicted_of window before =
+    option_and_then (λ o. if is_some (whole_front (members window before o)) then None else Some o.packet.counter)
+    (leaving window before)
 
 -- the counter of the heap that a heard packet evicts, where it opens a heap and the heap that leaves is not whole
 abbrev pub next_evicted : ℕ → List PlacedPacket → Parts → Option ℕ
@@ -74,7 +80,8 @@ abbrev pub verdict_of_last : Option JudgedHeap → Verdict
 verdict_of_last None = verdicts.Part
 verdict_of_last (Some j) = j.verdict
 
--- the verdict of a packet by what it is to its heap; where it makes the heap whole, that is the last of the judged heaps
+-- the verdict of a packet by what it is to its heap; where it
+-- makes the heap whole, that is the last of the judged heaps
 abbrev pub verdict_by : List JudgedHeap → Outcome → Verdict
 verdict_by js Part = verdicts.Part
 verdict_by js (Makes heap) = verdict_of_last (last_one js)
@@ -85,17 +92,19 @@ verdict_by js (Dropped cause) = verdicts.Dropped cause
 abbrev pub last_outcome : ℕ → List PlacedPacket → Outcome
 last_outcome window ps = unwrap_or (option_map (outcome_with window ps) (last_one ps)) Part
 
--- the verdict of the last string of these, which has this refusal, if it has one: refused, or dropped past the limit, or
--- else that of its packet
+-- the verdict of the last string of these, which has this refusal, if it has one: refused, or dropped past the limit,
+-- or else that of its packet
 abbrev pub verdict_after : Plan → ℕ → List (List ℕ) → List ℕ → Option Refusal → Verdict
 verdict_after plan antenna l bytes (Some refusal) = verdicts.Refused refusal
 verdict_after plan antenna l bytes None =
-    if is_within plan.heap_limit (parts_in bytes) then verdict_by (heaps plan antenna l) (last_outcome plan.window (placed_in plan l))
+    if is_within plan.heap_limit (parts_in bytes)
+    then verdict_by (heaps plan antenna l) (last_outcome plan.window (placed_in plan l))
     else verdicts.Dropped PastLimit
 
 -- the verdict of the last of these strings, all of which count
 abbrev pub packet_verdict : Plan → ℕ → List (List ℕ) → Verdict
-packet_verdict plan antenna l = unwrap_or (option_map (λ bytes. verdict_after plan antenna l bytes (refusal_of bytes)) (last_one l)) verdicts.Part
+packet_verdict plan antenna l =
+    unwrap_or (option_map (λ bytes. verdict_after plan antenna l bytes (refusal_of bytes)) (last_one l)) verdicts.Part
 
 -- the verdict of each string that counts, in order
 abbrev pub packet_verdicts : Plan → ℕ → List (List ℕ) → List Verdict
@@ -205,7 +214,8 @@ is_of_heap v = not (is_refused v || is_dropped v || is_stale v || is_part v)
 -- the number of strings that a report counts by their verdicts
 abbrev pub counted : Report → ℕ
 counted r =
-    r.refused + r.dropped + r.stale + r.undescribed + r.foreign + r.before + r.offgrid + r.wild + r.beyond + r.late + r.twice + r.used
+    r.refused + r.dropped + r.stale + r.undescribed + r.foreign + r.before + r.offgrid + r.wild + r.beyond + r.late
+    + r.twice + r.used
 
 -- the report on these verdicts
 abbrev pub report_on : ℕ → ℕ → List Verdict → Report

@@ -14,7 +14,11 @@ big bytes = fold (λ n b. 256 * n + b) 0 bytes
 
 -- eight bytes as a pointer: a mode bit, an id of 15 bits and a value of 48 bits
 abbrev pub pointer_of : List ℕ → Pointer
-pointer_of word = record { immediate = nat_le 32768 (big (take 2 word)); id = big (take 2 word) % 32768; value = big (drop 2 word) }
+pointer_of word = record {
+  immediate = nat_le 32768 (big (take 2 word));
+  id = big (take 2 word) % 32768;
+  value = big (drop 2 word);
+}
 
 -- the pointer's value where it is immediate and has this id, else the value found before
 abbrev pub later_value : ℕ → Option ℕ → Pointer → Option ℕ
@@ -41,7 +45,8 @@ pub record Spells (bytes : List ℕ) (p : Parts) : Type 0 where
   pub reserved : List ℕ
   pub count : List ℕ
   pub words : List (List ℕ)
-  pub whole : bytes ≡ (0x53 ∷ 0x04 ∷ 0x02 ∷ 0x06 ∷ []) ++ (reserved ++ (count ++ (flat_map (λ w. w) words ++ p.payload)))
+  pub whole : bytes ≡ (0x53 ∷ 0x04 ∷ 0x02 ∷ 0x06 ∷ [])
+      ++ (reserved ++ (count ++ (flat_map (λ w. w) words ++ p.payload)))
   pub reserved_two : length reserved ≡ 2
   pub count_two : length count ≡ 2
   pub as_many : big count ≡ length words

@@ -45,7 +45,8 @@ result_bytes p = p.antennas * column_bytes p + visibility_bytes p
 
 -- the bytes that a run reserves: the streams, the slots, the works and the outgoing result
 abbrev pub reserved : Plan → ℕ
-reserved p = p.antennas * stream_bytes p + p.slots * result_bytes p + max 1 p.workers * result_bytes p + visibility_bytes p
+reserved p = p.antennas * stream_bytes p + p.slots * result_bytes p + max 1 p.workers * result_bytes p
+    + visibility_bytes p
 
 -- the fields that give a run its shape are in their ranges
 pub record HasShapeRanges (p : Plan) : Type 0 where

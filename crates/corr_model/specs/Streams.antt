@@ -104,7 +104,8 @@ contents_so_far js heap = described_by js ++ contents_of heap
 
 -- a whole heap with what it says by the descriptors so far, its own included, and its verdict by the earlier heaps
 abbrev pub judge_next : Plan → ℕ → List JudgedHeap → WholeHeap → JudgedHeap
-judge_next plan antenna js heap = judged_as plan antenna js heap (sight plan (readable_descriptors plan (contents_so_far js heap)) (group_of heap))
+judge_next plan antenna js heap =
+    judged_as plan antenna js heap (sight plan (readable_descriptors plan (contents_so_far js heap)) (group_of heap))
 
 -- the whole heaps up to and including the first stop heap, each with its verdict
 abbrev pub heaps : Plan → ℕ → List (List ℕ) → List JudgedHeap
@@ -134,7 +135,8 @@ taken plan l = unwrap_or (find (has_stopped plan) (fronts l)) (take plan.packet_
 -- all accumulations where the stream has ended or is said to have, else the floor by its heaps; what is below it is
 -- closed
 abbrev pub floor : Plan → ℕ → List (List ℕ) → Bool → ℕ
-floor plan antenna l ended = if ended || is_some (ending plan l) then plan.accumulations else floor_of plan (heaps plan antenna l)
+floor plan antenna l ended =
+    if ended || is_some (ending plan l) then plan.accumulations else floor_of plan (heaps plan antenna l)
 
 -- the samples of a readable heap
 abbrev pub samples_of : JudgedHeap → List ℕ

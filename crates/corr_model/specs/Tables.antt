@@ -67,7 +67,8 @@ has_shape (n ∷ ns) (d ∷ ds) = is_fixed n d && has_shape ns ds
 -- the shape [F, S, 2, 2], all fixed, and exactly one type, i8
 abbrev pub is_voltages : Plan → DescribedItem → Bool
 is_voltages plan d =
-    has_shape (plan.channels ∷ plan.spectra ∷ 2 ∷ 2 ∷ []) d.shape && (length d.types == 1) && list_all (λ t. (t.letter == 105) && (t.bits == 8)) d.types
+    has_shape (plan.channels ∷ plan.spectra ∷ 2 ∷ 2 ∷ []) d.shape && (length d.types == 1)
+    && list_all (λ t. (t.letter == 105) && (t.bits == 8)) d.types
 
 -- what a readable heap says: timestamp, antenna number and samples
 pub record Sight : Type 0 where
@@ -86,11 +87,14 @@ described_number ds g id = if passes is_unsigned_scalar (table_entry ds id) then
 -- the samples: the first bytes of the voltages, where these are described and long enough
 abbrev pub samples : Plan → List DescribedItem → Group → Option (List ℕ)
 samples plan ds g =
-    if passes (is_voltages plan) (table_entry ds 0x4300) then option_and_then (long_enough (sample_bytes plan)) (addressed_content g 0x4300) else None
+    if passes (is_voltages plan) (table_entry ds 0x4300)
+    then option_and_then (long_enough (sample_bytes plan)) (addressed_content g 0x4300)
+    else None
 
 -- all three, or none where one is none
 abbrev pub sight_of : Option ℕ → Option ℕ → Option (List ℕ) → Option Sight
-sight_of (Some timestamp) (Some antenna) (Some samples) = Some (record { timestamp = timestamp; antenna = antenna; samples = samples })
+sight_of (Some timestamp) (Some antenna) (Some samples) =
+    Some (record { timestamp = timestamp; antenna = antenna; samples = samples })
 sight_of (Some timestamp) (Some antenna) None = None
 sight_of (Some timestamp) None samples = None
 sight_of None antenna samples = None

@@ -49,12 +49,14 @@ total xs = fold plus none_yet xs
 abbrev pub of_cells : Plan → ℕ → ℕ → ℕ → Option (List ℕ) → Option (List ℕ) → Complex
 of_cells plan c p q None y = none_yet
 of_cells plan c p q (Some x) None = none_yet
-of_cells plan c p q (Some x) (Some y) = total (map (λ s. times_conjugate (sample plan x c s p) (sample plan y c s q)) (numbers 0 plan.spectra))
+of_cells plan c p q (Some x) (Some y) =
+    total (map (λ s. times_conjugate (sample plan x c s p) (sample plan y c s q)) (numbers 0 plan.spectra))
 
 -- at channel c, the sum of the products of polarisation p of the first column and q of the second, over the timestamps
 -- from `from` up to, and not including, `to`
 abbrev pub part_of : Plan → List (Option (List ℕ)) → List (Option (List ℕ)) → ℕ → ℕ → ℕ → ℕ → ℕ → Complex
-part_of plan x y c p q from to = total (map (λ cells. of_cells plan c p q cells.0 cells.1) (slice_range (zip x y) from to))
+part_of plan x y c p q from to =
+    total (map (λ cells. of_cells plan c p q cells.0 cells.1) (slice_range (zip x y) from to))
 
 -- the number of timestamps at which at least one of the two cells is none
 abbrev pub missing_of : List (Option (List ℕ)) → List (Option (List ℕ)) → ℕ

@@ -67,7 +67,8 @@ placed window h = in_turn (place_next window) h
 -- a member of the heap that o opened: not before o, of its counter, and with fewer than W openings after o up to and
 -- including it
 abbrev pub is_member : ℕ → PlacedPacket → PlacedPacket → Bool
-is_member window o q = nat_le o.place q.place && (has_counter q.packet.counter o && nat_lt q.openings (o.openings + window))
+is_member window o q =
+    nat_le o.place q.place && (has_counter q.packet.counter o && nat_lt q.openings (o.openings + window))
 
 -- the members of the heap that o opened, in order
 abbrev pub members : ℕ → List PlacedPacket → PlacedPacket → List PlacedPacket

@@ -8,7 +8,8 @@ ghost use Rattle.corr_model.specs.Assembly.{Fate, kept, whole_front, said_size, 
 
 /// A heard packet, and so a member of a heap, ends within the size that it says itself.
 pub fn packets_end_within_their_sizes()
-    ensures heard { (plan : Plan) (l : List (List ℕ)) → All (λ p. IfSome p.size (λ size. end_of p ≤ size)) (heard plan l) }
+    ensures heard { (plan : Plan) (l : List (List ℕ))
+        → All (λ p. IfSome p.size (λ size. end_of p ≤ size)) (heard plan l) }
     ensures members { (plan : Plan) (l : List (List ℕ)) (o : PlacedPacket)
         → All (λ m. IfSome m.packet.size (λ size. end_of m.packet ≤ size)) (members plan.window (placed_in plan l) o) }
 {}

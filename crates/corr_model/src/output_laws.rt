@@ -20,16 +20,19 @@ pub fn lengths_of_values()
 #[tactic(auto, using(crate::proofs::OutputLaws::pairs_length, crate::proofs::OutputLaws::pair_at_baseline))]
 pub fn pairs_in_baseline_order()
     ensures count { (antennas : ℕ) → length (pairs antennas) ≡ baseline_count antennas }
-    ensures at { (antennas i j : ℕ) → i ≤ j → j < antennas → slice_get (pairs antennas) (baseline_number i j) ≡ Some (i, j) }
+    ensures at { (antennas i j : ℕ) → i ≤ j → j < antennas
+        → slice_get (pairs antennas) (baseline_number i j) ≡ Some (i, j) }
 {}
 
-/// The payload of a visibility heap has 64 bytes for each channel and baseline, and then 4 for each baseline. That of the
-/// descriptor heap has 288.
+/// The payload of a visibility heap has 64 bytes for each channel and baseline, and then 4 for each baseline. That of
+/// the descriptor heap has 288.
 #[tactic(auto, using(crate::proofs::OutputLaws::value_payload_length, crate::proofs::OutputLaws::missing_payload_length, crate::proofs::OutputLaws::heap_payload_length))]
 pub fn lengths_of_payloads()
     ensures values { (plan : Plan) (lists : Lists) (n : ℕ) → length (value_payload plan lists n) ≡ value_bytes plan }
-    ensures missing { (plan : Plan) (lists : Lists) (n : ℕ) → length (missing_payload plan lists n) ≡ 4 * baselines plan }
-    ensures whole { (plan : Plan) (lists : Lists) (n : ℕ) → length (value_payload plan lists n ++ missing_payload plan lists n) ≡ visibility_bytes plan }
+    ensures missing { (plan : Plan) (lists : Lists) (n : ℕ)
+        → length (missing_payload plan lists n) ≡ 4 * baselines plan }
+    ensures whole { (plan : Plan) (lists : Lists) (n : ℕ)
+        → length (value_payload plan lists n ++ missing_payload plan lists n) ≡ visibility_bytes plan }
     ensures head { (plan : Plan) → length (head_payload plan) ≡ 288 }
 {}
 
@@ -51,14 +54,16 @@ pub fn a_heap_for_each_accumulation()
         × (output plan lists ≡ head_packets plan ++ (flat_map (λ heap. heap) heaps ++ stop_packets plan)) }
 {}
 
-/// Each packet of the output spells the counter of its heap: 1 for the descriptors, then one more for each accumulation,
-/// and one more for the stop.
+/// Each packet of the output spells the counter of its heap: 1 for the descriptors, then one more for each
+/// accumulation, and one more for the stop.
 pub fn counters_in_order()
-    ensures head { (plan : Plan) → Fits plan → All (λ bytes. option_map (λ p. p.counter) (packet_in bytes) ≡ Some 1) (head_packets plan) }
+    ensures head { (plan : Plan) → Fits plan
+        → All (λ bytes. option_map (λ p. p.counter) (packet_in bytes) ≡ Some 1) (head_packets plan) }
     ensures heaps { (plan : Plan) (lists : Lists) (n : ℕ) → Fits plan → n < plan.accumulations
         → All (λ bytes. option_map (λ p. p.counter) (packet_in bytes) ≡ Some (n + 2)) (heap_packets plan lists n) }
     ensures stop { (plan : Plan) → Fits plan
-        → All (λ bytes. option_map (λ p. p.counter) (packet_in bytes) ≡ Some (plan.accumulations + 2)) (stop_packets plan) }
+        → All (λ bytes. option_map (λ p. p.counter) (packet_in bytes) ≡ Some (plan.accumulations + 2))
+        (stop_packets plan) }
 {}
 
 /// The output does not depend on how many slots and workers a run has.

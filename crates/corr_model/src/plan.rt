@@ -170,7 +170,8 @@ impl Plan {
 
     fn ends_in_time(&self) -> bool
         requires { HasShapeRanges self.now }
-        ensures { IsTrue result ↔ (self.now.start + self.now.accumulations * self.now.heaps * self.now.step ≤ 2 ^ 48 - 1) }
+        ensures { IsTrue result
+            ↔ (self.now.start + self.now.accumulations * self.now.heaps * self.now.step ≤ 2 ^ 48 - 1) }
     {
         let timestamps = u128::from(self.accumulations) * u128::from(self.heaps);
         let ticks = timestamps * u128::from(self.step);

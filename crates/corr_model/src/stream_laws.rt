@@ -129,7 +129,8 @@ pub fn later_heaps_are_above_the_floor()
         ≡ heaps plan antenna l }
     ensures above { (plan : Plan) (antenna : ℕ) (l rest : List (List ℕ)) (n t : ℕ)
         → n < floor plan antenna l false
-        → list_any (λ j. is_used_at n t j.verdict) (drop (length (heaps plan antenna l)) (heaps plan antenna (l ++ rest))) ≡ false }
+        → list_any (λ j. is_used_at n t j.verdict)
+        (drop (length (heaps plan antenna l)) (heaps plan antenna (l ++ rest))) ≡ false }
     ensures floor { (plan : Plan) (antenna : ℕ) (l rest : List (List ℕ))
         → floor plan antenna l false ≤ floor plan antenna (l ++ rest) false }
 {}

@@ -9,13 +9,15 @@ ghost use Rattle.corr_model.specs.Visibilities.{Lists, plus, part, missing};
 #[tactic(auto, using(crate::proofs::SumLaws::parts_add))]
 pub fn parts_add()
     ensures { (plan : Plan) (lists : Lists) (n i j c p q from mid to : ℕ) → from ≤ mid → mid ≤ to
-        → plus (part plan lists n i j c p q from mid) (part plan lists n i j c p q mid to) ≡ part plan lists n i j c p q from to }
+        → plus (part plan lists n i j c p q from mid) (part plan lists n i j c p q mid to)
+        ≡ part plan lists n i j c p q from to }
 {}
 
 /// The value and the missing count of antennas `i` and `j` depend on the byte strings of these two antennas alone.
 #[tactic(auto, using(crate::proofs::SumLaws::part_of_two_lists, crate::proofs::SumLaws::missing_of_two_lists))]
 pub fn two_lists_alone()
-    ensures value { (plan : Plan) (lists others : Lists) (n i j c p q from to : ℕ) → lists i ≡ others i → lists j ≡ others j
+    ensures value { (plan : Plan) (lists others : Lists) (n i j c p q from to : ℕ) → lists i ≡ others i
+        → lists j ≡ others j
         → part plan lists n i j c p q from to ≡ part plan others n i j c p q from to }
     ensures missing { (plan : Plan) (lists others : Lists) (n i j : ℕ) → lists i ≡ others i → lists j ≡ others j
         → missing plan lists n i j ≡ missing plan others n i j }

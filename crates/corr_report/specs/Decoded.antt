@@ -17,7 +17,9 @@ pair_of baseline = get_or (pairs 64) baseline (0, 0)
 
 -- the line on a baseline of these antennas, with a missing count
 abbrev pub antennas_text : ℕ × ℕ → ℕ → List ℕ
-antennas_text pair missing = codes "baseline " ++ decimal pair.0 ++ codes " " ++ decimal pair.1 ++ codes " missing " ++ decimal missing ++ codes "\n"
+antennas_text pair missing =
+    codes "baseline " ++ decimal pair.0 ++ codes " " ++ decimal pair.1 ++ codes " missing "
+    ++ decimal missing ++ codes "\n"
 
 -- the line on a baseline: its two antennas and its missing count
 abbrev pub baseline_text : View → ℕ → List ℕ

@@ -23,7 +23,8 @@ place_text place p =
 
 -- the line on a packet: its number and place, the size of its heap, and how many pointers of the heap it has
 abbrev pub packet_text : ℕ → Parts → List ℕ
-packet_text place p = place_text place p ++ size_text p.size ++ codes " pointers " ++ decimal (length p.pointers) ++ codes "\n"
+packet_text place p =
+    place_text place p ++ size_text p.size ++ codes " pointers " ++ decimal (length p.pointers) ++ codes "\n"
 
 -- what stands before the id: `i` where the pointer is immediate, `a` where it is addressed
 abbrev pub mode_text : Pointer → List ℕ

@@ -14,7 +14,8 @@ mark_text mark = encode_lower (to_be_bytes w64 mark)
 
 -- the line on what was sent
 abbrev pub summary_text : Sent → List ℕ
-summary_text s = codes "sent " ++ decimal s.packets ++ codes " packets " ++ decimal s.bytes ++ codes " bytes mark " ++ mark_text s.mark ++ codes "\n"
+summary_text s = codes "sent " ++ decimal s.packets ++ codes " packets " ++ decimal s.bytes ++ codes " bytes mark "
+    ++ mark_text s.mark ++ codes "\n"
 
 -- how a stream ended
 abbrev pub ending_text : Option Ending → List ℕ
@@ -26,7 +27,8 @@ ending_text (Some Fault) = codes "fault"
 
 -- the antenna of a stream, the byte strings taken, and how it ended
 abbrev pub taken_text : ℕ → StreamReport → List ℕ
-taken_text antenna r = codes "stream " ++ decimal antenna ++ codes " taken " ++ decimal r.taken ++ codes " ended " ++ ending_text r.ended
+taken_text antenna r =
+    codes "stream " ++ decimal antenna ++ codes " taken " ++ decimal r.taken ++ codes " ended " ++ ending_text r.ended
 
 -- the counts of byte strings that gave no heap with samples
 abbrev pub packet_counts : StreamReport → List ℕ

@@ -20,10 +20,19 @@ abbrev pub plain_meaning : Plan → Meaning
 plain_meaning plan = record { strings = sender_strings plan; value = λ cs from to. cross_value plan cs from to }
 
 pub plain_output : (plan : Plan) (lists : Lists) → output_by (plain_meaning plan) plan lists ≡ output plan lists
-plain_output plan lists = output_of_sender plan lists (λ n. cross_value plan (columns_of plan lists n) 0 plan.heaps) (heap_of_cross plan lists)
+plain_output plan lists =
+    output_of_sender plan lists (λ n. cross_value plan (columns_of plan lists n) 0 plan.heaps)
+    (heap_of_cross plan lists)
 
-pub plain_sends : (plan : Plan) (ran : Ran) (before after : Option (List (List ℕ))) (sent : Sent) (lists : Lists) → SendsBy ran before after sent (output_by (plain_meaning plan) plan lists) → SendsBy ran before after sent (output plan lists)
+pub plain_sends : (plan : Plan) (ran : Ran) (before after : Option (List (List ℕ))) (sent : Sent) (lists : Lists)
+    → SendsBy ran before after sent (output_by (plain_meaning plan) plan lists)
+    → SendsBy ran before after sent (output plan lists)
 plain_sends plan ran before after sent lists h = subst (SendsBy ran before after sent) (plain_output plan lists) h
 
-pub plain_counted : (plan : Plan) (before after : Option (List (List ℕ))) (sent : Sent) → SendsSome (plain_meaning plan) plan before after sent → SendsOutput plan before after sent
-plain_counted plan before after sent h = record { lists = h.lists; sends = subst (λ l. SendsWhole before after nothing sent l) (plain_output plan h.lists) h.sends }
+pub plain_counted : (plan : Plan) (before after : Option (List (List ℕ))) (sent : Sent)
+    → SendsSome (plain_meaning plan) plan before after sent → SendsOutput plan before after sent
+plain_counted plan before after sent h =
+    record {
+      lists = h.lists;
+      sends = subst (λ l. SendsWhole before after nothing sent l) (plain_output plan h.lists) h.sends;
+    }

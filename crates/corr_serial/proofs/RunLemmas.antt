@@ -37,7 +37,9 @@ use Rattle.corr_serial.proofs.ListenLemmas.{end_open}
 opened : (plan : Plan) (a : ℕ) → a < plan.antennas → stream_at (opening plan) a ≡ new_stream
 opened plan a few = get_or-replicate plan.antennas a new_stream new_stream few
 
-pub opening_at : {B E : Type 0} (value : ValuesOf B) (core : CoreView B E) → StandFor (value_with (value core.backend) core.parts.plan) core.parts (opening core.parts.plan) → core.failed ≡ false
+pub opening_at : {B E : Type 0} (value : ValuesOf B) (core : CoreView B E)
+    → StandFor (value_with (value core.backend) core.parts.plan) core.parts (opening core.parts.plan)
+    → core.failed ≡ false
     → IsAt value core.parts.plan core.backend core 0 0 (opening core.parts.plan)
 opening_at value core stands calm =
     let plan = core.parts.plan in
@@ -48,17 +50,21 @@ opening_at value core stands calm =
       put_before = λ a low few. absurd (omega arith);
       put_rest = λ a high few. ap (λ (x : StreamState). x.put) (opened plan a few);
       free = λ w low. get_or-replicate (work_count plan) w None None low;
-      counts = λ a few. subst (λ (x : StreamState). taken plan x.strings ≡ x.strings) (sym (opened plan a few)) (taken_open plan [] (never_stopped plan) (omega arith));
+      counts = λ a few. subst (λ (x : StreamState). taken plan x.strings ≡ x.strings) (sym (opened plan a few))
+          (taken_open plan [] (never_stopped plan) (omega arith));
     }
 
-pub opening_listened : {B E S : Type 0} (value : ValuesOf B) (gives : S → Option (List (List ℕ))) (given faults : S → ℕ) (core : CoreView B E) (sources : List S) → IsAt value core.parts.plan core.backend core 0 0 (opening core.parts.plan)
+pub opening_listened : {B E S : Type 0} (value : ValuesOf B) (gives : S → Option (List (List ℕ))) (given faults : S → ℕ)
+    (core : CoreView B E) (sources : List S)
+    → IsAt value core.parts.plan core.backend core 0 0 (opening core.parts.plan)
     → AreListened gives given faults core.parts.plan sources sources core.parts (opening core.parts.plan)
 opening_listened value gives given faults core sources h = record {
   as_many = refl;
   same_gives = record { each = λ a d. refl };
   each = λ a s few.
       let plan = core.parts.plan in
-      let none = end_open value plan core.backend core 0 0 (opening plan) a h few (ap (λ (x : StreamState). x.ended) (opened plan a few)) in
+      let none = end_open value plan core.backend core 0 0 (opening plan) a h few
+      (ap (λ (x : StreamState). x.ended) (opened plan a few)) in
       let empty : strings_of (opening plan) a ≡ [] = ap (λ (x : StreamState). x.strings) (opened plan a few) in
       record {
         told = λ all told zero. record {
@@ -66,14 +72,18 @@ opening_listened value gives given faults core sources h = record {
           within = omega (arith, zero);
           whole = λ e. absurd (let off = sym (ap is_said none) ∙ e in cc);
         };
-        cause = subst (λ o. RisesIf (is_fault o) (faults (get_or sources a s)) (faults (get_or sources a s))) (sym none) refl;
+        cause = subst (λ o. RisesIf (is_fault o) (faults (get_or sources a s)) (faults (get_or sources a s)))
+            (sym none) refl;
       };
 }
 
 -- ---- what the streams heard
 
-pub are_heard : {S : Type 0} (value : Value) (gives : S → Option (List (List ℕ))) (given faults : S → ℕ) (plan : Plan) (start now : List S) (p : PartsView) (state : State) → p.plan ≡ plan → StandFor value p state
-    → ((a : ℕ) → a < plan.antennas → taken plan (strings_of state a) ≡ strings_of state a) → AreListened gives given faults plan start now p state → AreHeard plan gives given faults start now p.feeds (strings_of state)
+pub are_heard : {S : Type 0} (value : Value) (gives : S → Option (List (List ℕ))) (given faults : S → ℕ) (plan : Plan)
+    (start now : List S) (p : PartsView) (state : State) → p.plan ≡ plan → StandFor value p state
+    → ((a : ℕ) → a < plan.antennas → taken plan (strings_of state a) ≡ strings_of state a)
+    → AreListened gives given faults plan start now p state
+    → AreHeard plan gives given faults start now p.feeds (strings_of state)
 are_heard value gives given faults plan start now p state same stands counts h = record {
   as_many = h.as_many;
   same_gives = h.same_gives;
@@ -81,7 +91,8 @@ are_heard value gives given faults plan start now p state same stands counts h =
       let low : a < p.plan.antennas = subst (λ (k : Plan). a < k.antennas) (sym same) few in
       let there = feed_there value plan p state a same stands few in
       let here = h.each a s few in
-      subst (λ q. Hears plan a (gives (get_or start a s)) (given (get_or start a s)) (given (get_or now a s)) (faults (get_or start a s)) (faults (get_or now a s)) q (strings_of state a))
+      subst (λ q. Hears plan a (gives (get_or start a s)) (given (get_or start a s)) (given (get_or now a s))
+      (faults (get_or start a s)) (faults (get_or now a s)) q (strings_of state a))
       (get_or_default p.feeds a (no_feed p.plan) f there)
       (record {
         heard = record {
@@ -101,15 +112,20 @@ none_or_some (Some x) = inr refl
 
 -- strings that all count are a front of those that count of a longer list
 counting_front : (plan : Plan) (r s : List (List ℕ)) → taken plan s ≡ s → IsFrontOf s (taken plan (s ++ r))
-counting_front plan [] s counts = record { rest = []; is = ap (taken plan) (append-nil s) ∙ counts ∙ sym (append-nil s) }
+counting_front plan [] s counts =
+    record { rest = []; is = ap (taken plan) (append-nil s) ∙ counts ∙ sym (append-nil s) }
 counting_front plan (b ∷ r) s counts = elim (none_or_some (ending plan s)) [
   | inr over ↦ record { rest = []; is = taken_past plan s (b ∷ r) over ∙ counts ∙ sym (append-nil s) }
   | inl still ↦
       let more = counting_front plan r (s ++ b ∷ []) (taken_next plan s b still) in
-      record { rest = b ∷ more.rest; is = ap (taken plan) (sym (append_assoc s (b ∷ []) r)) ∙ more.is ∙ append_assoc s (b ∷ []) more.rest }
+      record {
+        rest = b ∷ more.rest;
+        is = ap (taken plan) (sym (append_assoc s (b ∷ []) r)) ∙ more.is ∙ append_assoc s (b ∷ []) more.rest;
+      }
 ]
 
-stream_fits : (plan : Plan) (x : StreamState) (l : List (List ℕ)) (over : Bool) → taken plan x.strings ≡ x.strings → over ≡ x.ended → GoesOn plan x.strings over l → StreamFits plan x l
+stream_fits : (plan : Plan) (x : StreamState) (l : List (List ℕ)) (over : Bool) → taken plan x.strings ≡ x.strings
+    → over ≡ x.ended → GoesOn plan x.strings over l → StreamFits plan x l
 stream_fits plan x l over counts ended h =
     let front = counting_front plan h.rest x.strings counts in
     let is : taken plan l ≡ x.strings ++ front.rest = ap (taken plan) h.is ∙ front.is in
@@ -119,11 +135,13 @@ stream_fits plan x l over counts ended h =
     }
 
 -- lists that go on from what the streams heard are lists that the state fits
-pub go_on_fits : (value : Value) (plan : Plan) (p : PartsView) (state : State) (all : Lists) → p.plan ≡ plan → StandFor value p state → ((a : ℕ) → a < plan.antennas → taken plan (strings_of state a) ≡ strings_of state a)
+pub go_on_fits : (value : Value) (plan : Plan) (p : PartsView) (state : State) (all : Lists) → p.plan ≡ plan
+    → StandFor value p state → ((a : ℕ) → a < plan.antennas → taken plan (strings_of state a) ≡ strings_of state a)
     → AllGoOn plan p.feeds (strings_of state) all → FitsLists plan state all
 go_on_fits value plan p state all same stands counts h a few =
     let low : a < p.plan.antennas = subst (λ (k : Plan). a < k.antennas) (sym same) few in
-    stream_fits plan (stream_at state a) (all a) (is_over (feed_in p a)) (counts a few) (stands.stands_for.stream a low).ended (h.each a (no_feed p.plan) few)
+    stream_fits plan (stream_at state a) (all a) (is_over (feed_in p a)) (counts a few)
+    (stands.stands_for.stream a low).ended (h.each a (no_feed p.plan) few)
 
 -- ---- the whole run
 
@@ -136,74 +154,123 @@ heaps_of_lists value backend strings plan all = heaps_by (value_with (value back
 
 -- what was sent before a number, of some lists
 abbrev pub sent_to : {B : Type 0} → ValuesOf B → B → Strings → Plan → ℕ → Lists → List (List ℕ)
-sent_to value backend strings plan number all = output_before plan (heaps_by (value_with (value backend) plan) strings plan all) number
+sent_to value backend strings plan number all =
+    output_before plan (heaps_by (value_with (value backend) plan) strings plan all) number
 
 -- an accumulation more
-pub goes_next : {B E S : Type 0} (value : ValuesOf B) (gives : S → Option (List (List ℕ))) (given faults : S → ℕ) (plan : Plan) (backend : B) (strings : Strings) (one two three : List S) (old first mid now : CoreView B E) (number : ℕ) (state : State) (before middle later after : Option (List (List ℕ))) (sent_before sent_middle sent_later sent : Sent)
-    → (h : Goes value gives given faults plan backend one two old first number 0 state before middle sent_before sent_middle (sent_to value backend strings plan number))
-    → (k : Goes value gives given faults plan backend two three first mid number plan.antennas h.next middle later sent_middle sent_later (λ all. []))
-    → Stays value plan backend mid now (number + 1) 0 k.next later after sent_later sent (part_of value backend strings plan number)
-    → Goes value gives given faults plan backend one three old now (number + 1) 0 state before after sent_before sent (sent_to value backend strings plan (number + 1))
-goes_next value gives given faults plan backend strings one two three old first mid now number state before middle later after sent_before sent_middle sent_later sent h k s =
+pub goes_next : {B E S : Type 0} (value : ValuesOf B) (gives : S → Option (List (List ℕ))) (given faults : S → ℕ)
+    (plan : Plan) (backend : B) (strings : Strings) (one two three : List S) (old first mid now : CoreView B E)
+    (number : ℕ) (state : State) (before middle later after : Option (List (List ℕ)))
+    (sent_before sent_middle sent_later sent : Sent)
+    → (h : Goes value gives given faults plan backend one two old first number 0 state before middle sent_before
+    sent_middle (sent_to value backend strings plan number))
+    → (k : Goes value gives given faults plan backend two three first mid number plan.antennas h.next middle later
+    sent_middle sent_later (λ all. []))
+    → Stays value plan backend mid now (number + 1) 0 k.next later after sent_later sent
+    (part_of value backend strings plan number)
+    → Goes value gives given faults plan backend one three old now (number + 1) 0 state before after sent_before sent
+    (sent_to value backend strings plan (number + 1))
+goes_next value gives given faults plan backend strings one two three old first mid now number state before middle later
+    after sent_before sent_middle sent_later sent h k s =
     let part = part_of value backend strings plan number in
-    let still = goes_still value gives given faults plan backend three mid now (number + 1) 0 k.next later after sent_later sent part s in
-    let second = goes_then value gives given faults plan backend two three three first mid now number plan.antennas (number + 1) 0 h.next middle later after sent_middle sent_later sent (λ all. []) part k still in
-    goes_as value gives given faults plan backend one three old now (number + 1) 0 state before after sent_before sent (λ all. sent_to value backend strings plan number all ++ part all) (sent_to value backend strings plan (number + 1))
+    let still = goes_still value gives given faults plan backend three mid now (number + 1) 0 k.next later after
+    sent_later sent part s in
+    let second = goes_then value gives given faults plan backend two three three first mid now number plan.antennas
+    (number + 1) 0 h.next middle later after sent_middle sent_later sent (λ all. []) part k still in
+    goes_as value gives given faults plan backend one three old now (number + 1) 0 state before after sent_before sent
+    (λ all. sent_to value backend strings plan number all ++ part all)
+    (sent_to value backend strings plan (number + 1))
     (λ all. sym (before_next plan (heaps_by (value_with (value backend) plan) strings plan all) number))
-    (goes_then value gives given faults plan backend one two three old first now number 0 (number + 1) 0 state before middle after sent_before sent_middle sent (sent_to value backend strings plan number) part h second)
+    (goes_then value gives given faults plan backend one two three old first now number 0 (number + 1) 0 state before
+    middle after sent_before sent_middle sent (sent_to value backend strings plan number) part h second)
 
-module _ {B E S : Type 0} (value : ValuesOf B) (gives : S → Option (List (List ℕ))) (given faults : S → ℕ) (strings : Strings) (old : CoreView B E) (start : List S) (before : Option (List (List ℕ))) (sent_before : Sent)
-    (at : IsAt value old.parts.plan old.backend old 0 0 (opening old.parts.plan)) (some : 0 < old.parts.plan.accumulations) where
+module _ {B E S : Type 0} (value : ValuesOf B) (gives : S → Option (List (List ℕ))) (given faults : S → ℕ)
+    (strings : Strings) (old : CoreView B E) (start : List S) (before : Option (List (List ℕ))) (sent_before : Sent)
+    (at : IsAt value old.parts.plan old.backend old 0 0 (opening old.parts.plan))
+    (some : 0 < old.parts.plan.accumulations) where
   -- all was sent, and each stream was heard to its end
-  pub runs_whole : (now mid : CoreView B E) (later end : List S) (number : ℕ) (middle after : Option (List (List ℕ))) (sent_middle sent : Sent) → number ≡ old.parts.plan.accumulations
-      → (h : Goes value gives given faults old.parts.plan old.backend start later old mid number 0 (opening old.parts.plan) before middle sent_before sent_middle (sent_to value old.backend strings old.parts.plan number))
-      → Goes value gives given faults old.parts.plan old.backend later end mid now old.parts.plan.accumulations 0 h.next middle after sent_middle sent (λ all. [])
+  pub runs_whole : (now mid : CoreView B E) (later end : List S) (number : ℕ) (middle after : Option (List (List ℕ)))
+      (sent_middle sent : Sent) → number ≡ old.parts.plan.accumulations
+      → (h : Goes value gives given faults old.parts.plan old.backend start later old mid number 0
+      (opening old.parts.plan) before middle sent_before sent_middle
+      (sent_to value old.backend strings old.parts.plan number))
+      → Goes value gives given faults old.parts.plan old.backend later end mid now old.parts.plan.accumulations 0 h.next
+      middle after sent_middle sent (λ all. [])
       → ((a : ℕ) → a < old.parts.plan.antennas → is_some (end_of now.parts a) ≡ true)
-      → RunsWhole (meaning_of value old.backend strings old.parts.plan) old.parts.plan gives given faults start end now.parts.feeds before after sent_before sent
+      → RunsWhole (meaning_of value old.backend strings old.parts.plan) old.parts.plan gives given faults start end
+      now.parts.feeds before after sent_before sent
   runs_whole now mid later end number middle after sent_middle sent all_sent h k over =
       let plan = old.parts.plan in
-      let g = goes_then value gives given faults plan old.backend start later end old mid now number 0 plan.accumulations 0 (opening plan) before middle after sent_before sent_middle sent (sent_to value old.backend strings plan number) (λ all. []) h k in
+      let g = goes_then value gives given faults plan old.backend start later end old mid now number 0
+      plan.accumulations 0 (opening plan) before middle after sent_before sent_middle sent
+      (sent_to value old.backend strings plan number) (λ all. []) h k in
       let last = g.at in
       record {
         heard = strings_of g.next;
-        are_heard = are_heard (value_with (value old.backend) plan) gives given faults plan start end now.parts g.next last.own.same_plan last.stands_for last.counts (g.listened start (opening_listened value gives given faults old start at));
+        are_heard = are_heard (value_with (value old.backend) plan) gives given faults plan start end now.parts g.next
+            last.own.same_plan last.stands_for last.counts
+            (g.listened start (opening_listened value gives given faults old start at));
         are_over = record {
           each = λ a f few.
-              ap (λ q. is_over q) (sym (get_or_default now.parts.feeds a (no_feed now.parts.plan) f (feed_there (value_with (value old.backend) plan) plan now.parts g.next a last.own.same_plan last.stands_for few))) ∙ over a few;
+              ap (λ q. is_over q) (sym
+              (get_or_default now.parts.feeds a (no_feed now.parts.plan) f
+              (feed_there (value_with (value old.backend) plan) plan now.parts g.next a last.own.same_plan
+              last.stands_for few))) ∙ over a few;
         };
         sends = λ all go.
             subst (SendsWhole before after sent_before sent)
-            (append-nil (output_before plan (heaps_of_lists value old.backend strings plan all) number) ∙ ap (output_before plan (heaps_of_lists value old.backend strings plan all)) all_sent ∙ before_all plan (heaps_of_lists value old.backend strings plan all) some)
-            (g.sends all (go_on_fits (value_with (value old.backend) plan) plan now.parts g.next all last.own.same_plan last.stands_for last.counts go));
+            (append-nil (output_before plan (heaps_of_lists value old.backend strings plan all) number) ∙ ap
+            (output_before plan (heaps_of_lists value old.backend strings plan all)) all_sent ∙ before_all plan
+            (heaps_of_lists value old.backend strings plan all) some)
+            (g.sends all (go_on_fits (value_with (value old.backend) plan) plan now.parts g.next all last.own.same_plan
+            last.stands_for last.counts go));
       }
 
   -- the sink failed at the heap of a number
-  pub runs_front : (now first mid : CoreView B E) (later end : List S) (number : ℕ) (middle after : Option (List (List ℕ))) (sent_middle sent : Sent) → number < old.parts.plan.accumulations
+  pub runs_front : (now first mid : CoreView B E) (later end : List S) (number : ℕ)
+      (middle after : Option (List (List ℕ))) (sent_middle sent : Sent) → number < old.parts.plan.accumulations
       → (third : Option (List (List ℕ))) (sent_third : Sent)
-      → (h : Goes value gives given faults old.parts.plan old.backend start later old first number 0 (opening old.parts.plan) before middle sent_before sent_middle (sent_to value old.backend strings old.parts.plan number))
-      → (k : Goes value gives given faults old.parts.plan old.backend later end first mid number old.parts.plan.antennas h.next middle third sent_middle sent_third (λ all. []))
+      → (h : Goes value gives given faults old.parts.plan old.backend start later old first number 0
+      (opening old.parts.plan) before middle sent_before sent_middle
+      (sent_to value old.backend strings old.parts.plan number))
+      → (k : Goes value gives given faults old.parts.plan old.backend later end first mid number old.parts.plan.antennas
+      h.next middle third sent_middle sent_third (λ all. []))
       → Breaks value old.parts.plan old.backend strings mid now number k.next third after sent_third sent
-      → RunsFront (meaning_of value old.backend strings old.parts.plan) old.parts.plan gives given faults start end now.parts.feeds before after sent_before sent
+      → RunsFront (meaning_of value old.backend strings old.parts.plan) old.parts.plan gives given faults start end
+      now.parts.feeds before after sent_before sent
   runs_front now first mid later end number middle after sent_middle sent more third sent_third h k b =
       let plan = old.parts.plan in
-      let counts : (a : ℕ) → a < plan.antennas → taken plan (strings_of b.next a) ≡ strings_of b.next a = λ a few. subst (λ l. taken plan l ≡ l) (sym (b.keeps.same a few).strings) (k.at.counts a few) in
+      let counts : (a : ℕ) → a < plan.antennas → taken plan (strings_of b.next a) ≡ strings_of b.next a =
+      λ a few. subst (λ l. taken plan l ≡ l) (sym (b.keeps.same a few).strings) (k.at.counts a few) in
       record {
         heard = strings_of b.next;
-        are_heard = are_heard (value_with (value old.backend) plan) gives given faults plan start end now.parts b.next b.same_plan b.stands_for counts
-            (still_listened gives given faults plan start end mid.parts now.parts k.next b.next b.keeps (k.listened start (h.listened start (opening_listened value gives given faults old start at))));
+        are_heard = are_heard (value_with (value old.backend) plan) gives given faults plan start end now.parts b.next
+            b.same_plan b.stands_for counts
+            (still_listened gives given faults plan start end mid.parts now.parts k.next b.next b.keeps
+            (k.listened start (h.listened start (opening_listened value gives given faults old start at))));
         sends = λ all go.
-            let now_fits = go_on_fits (value_with (value old.backend) plan) plan now.parts b.next all b.same_plan b.stands_for counts go in
+            let now_fits = go_on_fits (value_with (value old.backend) plan) plan now.parts b.next all b.same_plan
+            b.stands_for counts go in
             let fits = streams_fit plan mid.parts now.parts k.next b.next all b.keeps now_fits in
             let was = output_before plan (heaps_of_lists value old.backend strings plan all) number in
             let part = sent_with plan (heaps_of_lists value old.backend strings plan all) number in
-            let around = before_front plan (heaps_of_lists value old.backend strings plan all) (number + 1) some (omega (arith, more)) in
-            front_more before third after sent_before sent_third sent (was ++ []) part around.rest (output_by (meaning_of value old.backend strings plan) plan all) (whole_more before middle third sent_before sent_middle sent_third was [] (h.sends all (k.fits all fits)) (k.sends all fits)) (b.front all now_fits)
-            (around.is ∙ ap (λ l. l ++ around.rest) (before_next plan (heaps_of_lists value old.backend strings plan all) number) ∙ append_assoc was part around.rest ∙ ap (λ l. l ++ (part ++ around.rest)) (sym (append-nil was)));
+            let around = before_front plan (heaps_of_lists value old.backend strings plan all) (number + 1) some
+            (omega (arith, more)) in
+            front_more before third after sent_before sent_third sent (was ++ []) part around.rest
+            (output_by (meaning_of value old.backend strings plan) plan all)
+            (whole_more before middle third sent_before sent_middle sent_third was []
+            (h.sends all (k.fits all fits)) (k.sends all fits)) (b.front all now_fits)
+            (around.is ∙ ap (λ l. l ++ around.rest)
+            (before_next plan (heaps_of_lists value old.backend strings plan all) number) ∙ append_assoc was part
+            around.rest ∙ ap (λ l. l ++ (part ++ around.rest)) (sym (append-nil was)));
       }
 
 -- an Err where a front was sent
-pub err_runs : {S T E : Type 0} (m : Meaning) (plan : Plan) (gives : S → Option (List (List ℕ))) (given faults : S → ℕ) (start now : List S) (feeds : List FeedState) (before after : Option (List (List ℕ))) (first last : Sent) (x : Result T E)
-    → IsErr x → RunsFront m plan gives given faults start now feeds before after first last → Runs m plan gives given faults start now feeds before after first last x
+pub err_runs : {S T E : Type 0} (m : Meaning) (plan : Plan) (gives : S → Option (List (List ℕ))) (given faults : S → ℕ)
+    (start now : List S) (feeds : List FeedState) (before after : Option (List (List ℕ))) (first last : Sent)
+    (x : Result T E)
+    → IsErr x → RunsFront m plan gives given faults start now feeds before after first last
+    → Runs m plan gives given faults start now feeds before after first last x
 err_runs m plan gives given faults start now feeds before after first last (Ok x) is h = absurd cc
 err_runs m plan gives given faults start now feeds before after first last (Err e) is h = h
 
@@ -216,14 +283,18 @@ some_accumulations plan fits = fits.ranges.shape.accumulations.least_met
 pub slot_within : (plan p q : Plan) (n : ℕ) → Fits plan → p ≡ plan → q ≡ plan → n % q.slots < p.slots
 slot_within plan p q n fits same told =
     let some : 0 < plan.slots = fits.ranges.limit.slots.least_met in
-    subst (λ (k : Plan). n % q.slots < k.slots) (sym same) (subst (λ (k : Plan). n % k.slots < plan.slots) (sym told) (mod_below n plan.slots some))
+    subst (λ (k : Plan). n % q.slots < k.slots) (sym same)
+    (subst (λ (k : Plan). n % k.slots < plan.slots) (sym told) (mod_below n plan.slots some))
 
 pub slot_is : (plan q : Plan) (n : ℕ) → q ≡ plan → n % q.slots ≡ n % plan.slots
 slot_is plan q n told = ap (λ (k : Plan). n % k.slots) told
 
-pub feeds_counted : (value : Value) (plan : Plan) (p : PartsView) (state : State) → p.plan ≡ plan → StandFor value p state → length p.feeds ≡ plan.antennas
+pub feeds_counted : (value : Value) (plan : Plan) (p : PartsView) (state : State) → p.plan ≡ plan
+    → StandFor value p state → length p.feeds ≡ plan.antennas
 feeds_counted value plan p state same stands = stands.stands_for.feed_count ∙ ap (λ (k : Plan). k.antennas) same
 
 -- the last number, said otherwise
-pub at_last : {B E : Type 0} (value : ValuesOf B) (plan : Plan) (backend : B) (core : CoreView B E) (number : ℕ) (state : State) → number ≡ plan.accumulations → IsAt value plan backend core number 0 state → IsAt value plan backend core plan.accumulations 0 state
+pub at_last : {B E : Type 0} (value : ValuesOf B) (plan : Plan) (backend : B) (core : CoreView B E) (number : ℕ)
+    (state : State) → number ≡ plan.accumulations → IsAt value plan backend core number 0 state
+    → IsAt value plan backend core plan.accumulations 0 state
 at_last value plan backend core number state all h = subst (λ n. IsAt value plan backend core n 0 state) all h

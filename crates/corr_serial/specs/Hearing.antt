@@ -38,7 +38,8 @@ pub record IsFront (all : List (List ℕ)) (given : ℕ) (ended : Option Ending)
 
 -- the feed heard these strings of its source: the first that it gives, where that is told and nothing was given before;
 -- and the source's count of faults rose where the stream ended so
-pub record Hears (plan : Plan) (antenna : ℕ) (gives : Option (List (List ℕ))) (given_before given faults_before faults : ℕ) (f : FeedState) (strings : List (List ℕ)) : Type 0 where
+pub record Hears (plan : Plan) (antenna : ℕ) (gives : Option (List (List ℕ)))
+    (given_before given faults_before faults : ℕ) (f : FeedState) (strings : List (List ℕ)) : Type 0 where
   pub heard : HasHeard plan antenna f strings
   pub told : (all : List (List ℕ)) → gives ≡ Some all → given_before ≡ 0 → IsFront all given f.report.ended strings
   pub cause : RisesIf (is_fault f.report.ended) faults_before faults

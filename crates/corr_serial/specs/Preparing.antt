@@ -17,7 +17,8 @@ pub record PreparedView (B E : Type 0) : Type 0 where
   pub emit : E
 
 -- the core stands for the machine's opening and sent nothing, and as many reports have room as there are antennas
-pub record IsPrepared {B E : Type 0} (value : ValuesOf B) (core : CoreView B E) (tally : Sent) (reports : ℕ) : Type 0 where
+pub record IsPrepared {B E : Type 0} (value : ValuesOf B) (core : CoreView B E) (tally : Sent)
+    (reports : ℕ) : Type 0 where
   pub fits : Fits core.parts.plan
   pub stands : StandFor (value_with (value core.backend) core.parts.plan) core.parts (opening core.parts.plan)
   pub calm : core.failed ≡ false

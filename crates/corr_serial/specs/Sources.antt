@@ -13,7 +13,8 @@ pub record KeepsEach {S A : Type 0} (said : S → A) (old now : List S) : Type 0
 
 -- each source still belongs to the antennas to which it belonged
 pub record KeepsBelonging {S : Type 0} (belongs : S → ℕ → Type 0) (old now : List S) : Type 0 where
-  pub each : (a : ℕ) (d : S) (antenna : ℕ) → belongs (slice_index_or old a d) antenna → belongs (slice_index_or now a d) antenna
+  pub each : (a : ℕ) (d : S) (antenna : ℕ) → belongs (slice_index_or old a d) antenna
+      → belongs (slice_index_or now a d) antenna
 
 -- the sources from this number on are as they were
 pub record AreSameFrom {S : Type 0} (count : ℕ) (old now : List S) : Type 0 where
@@ -41,14 +42,16 @@ HasLeastRise faults count old now None = KeepsEach faults old now
 HasLeastRise faults count old now (Some least) = IsLeastRise faults count least old now
 
 -- what stays of a source that is read: it is begun where it was, gives what it gave and belongs to whom it belonged
-pub record KeepsSource {S A B : Type 0} (begun : S → Bool) (at : S → A) (gives : S → B) (belongs : S → ℕ → Type 0) (old now : S) : Type 0 where
+pub record KeepsSource {S A B : Type 0} (begun : S → Bool) (at : S → A) (gives : S → B) (belongs : S → ℕ → Type 0)
+    (old now : S) : Type 0 where
   pub is_begun : begun now ≡ true
   pub same_at : at now ≡ at old
   pub same_gives : gives now ≡ gives old
   pub still_belongs : (a : ℕ) → belongs old a → belongs now a
 
 -- what stays of the sources of a run
-pub record KeepsSources {S A B : Type 0} (begun : S → Bool) (at : S → A) (gives : S → B) (belongs : S → ℕ → Type 0) (count : ℕ) (old now : List S) : Type 0 where
+pub record KeepsSources {S A B : Type 0} (begun : S → Bool) (at : S → A) (gives : S → B) (belongs : S → ℕ → Type 0)
+    (count : ℕ) (old now : List S) : Type 0 where
   pub later : AreSameFrom count old now
   pub are_begun : AreBegun begun count now
   pub same_at : KeepsEach at old now

@@ -36,7 +36,8 @@ nothing f (Some x) h = absurd cc
 
 -- a number that passes both tests is in the range
 between : (least most n : ℕ) → nat_le least n ≡ true → nat_le n most ≡ true → IsWithin n least most
-between least most n low high = record { least_met = omega (arith, leb-true least n low); most_met = omega (arith, leb-true n most high) }
+between least most n low high =
+    record { least_met = omega (arith, leb-true least n low); most_met = omega (arith, leb-true n most high) }
 
 -- an integer that is not out of the range
 in_range : (least most n : ℕ) → out_of least most (pos n) ≡ None → IsWithin n least most
@@ -52,10 +53,12 @@ in_eights least most n h =
     (between least most n low high, eqb-true (n % 8) 0 eights)
 
 -- a required number
-needed : (key : Key) (least most : ℕ) (o : Option Data) → Passes (key, (Integer least most), Required) o → IsWithin (number_or (option_and_then as_integer o) 0) least most
+needed : (key : Key) (least most : ℕ) (o : Option Data) → Passes (key, (Integer least most), Required) o
+    → IsWithin (number_or (option_and_then as_integer o) 0) least most
 needed key least most None p = let h = p.given in absurd cc
 needed key least most (Some (integer (pos n))) p = in_range least most n (nothing (λ z. Range key z) _ p.in_range)
-needed key least most (Some (integer (negsuc n))) p = let h = nothing (λ z. Range key z) (Some (negsuc n)) p.in_range in absurd cc
+needed key least most (Some (integer (negsuc n))) p =
+    let h = nothing (λ z. Range key z) (Some (negsuc n)) p.in_range in absurd cc
 needed key least most (Some (string s)) p = let h = p.of_kind in absurd cc
 needed key least most (Some (float s)) p = let h = p.of_kind in absurd cc
 needed key least most (Some (boolean s)) p = let h = p.of_kind in absurd cc
@@ -64,13 +67,15 @@ needed key least most (Some (array s)) p = let h = p.of_kind in absurd cc
 needed key least most (Some (table s)) p = let h = p.of_kind in absurd cc
 
 -- a number with a default that is in a range around the row's
-given_or : (key : Key) (least most default top : ℕ) (o : Option Data) → IsWithin default least top → most ≤ top → Passes (key, (Integer least most), Optional) o
+given_or : (key : Key) (least most default top : ℕ) (o : Option Data) → IsWithin default least top → most ≤ top
+    → Passes (key, (Integer least most), Optional) o
     → IsWithin (number_or (option_and_then as_integer o) default) least top
 given_or key least most default top None within le p = within
 given_or key least most default top (Some (integer (pos n))) within le p =
     let is = in_range least most n (nothing (λ z. Range key z) _ p.in_range) in
     record { least_met = is.least_met; most_met = le_trans is.most_met le }
-given_or key least most default top (Some (integer (negsuc n))) within le p = let h = nothing (λ z. Range key z) (Some (negsuc n)) p.in_range in absurd cc
+given_or key least most default top (Some (integer (negsuc n))) within le p =
+    let h = nothing (λ z. Range key z) (Some (negsuc n)) p.in_range in absurd cc
 given_or key least most default top (Some (string s)) within le p = let h = p.of_kind in absurd cc
 given_or key least most default top (Some (float s)) within le p = let h = p.of_kind in absurd cc
 given_or key least most default top (Some (boolean s)) within le p = let h = p.of_kind in absurd cc
@@ -79,11 +84,15 @@ given_or key least most default top (Some (array s)) within le p = let h = p.of_
 given_or key least most default top (Some (table s)) within le p = let h = p.of_kind in absurd cc
 
 -- the same of a multiple of 8
-eights_or : (key : Key) (least most default : ℕ) (o : Option Data) → IsWithin default least most → default % 8 ≡ 0 → Passes (key, (Eights least most), Optional) o
-    → IsWithin (number_or (option_and_then as_integer o) default) least most × (number_or (option_and_then as_integer o) default % 8 ≡ 0)
+eights_or : (key : Key) (least most default : ℕ) (o : Option Data) → IsWithin default least most → default % 8 ≡ 0
+    → Passes (key, (Eights least most), Optional) o
+    → IsWithin (number_or (option_and_then as_integer o) default) least most
+    × (number_or (option_and_then as_integer o) default % 8 ≡ 0)
 eights_or key least most default None within even p = (within, even)
-eights_or key least most default (Some (integer (pos n))) within even p = in_eights least most n (nothing (λ z. Range key z) _ p.in_range)
-eights_or key least most default (Some (integer (negsuc n))) within even p = let h = nothing (λ z. Range key z) (Some (negsuc n)) p.in_range in absurd cc
+eights_or key least most default (Some (integer (pos n))) within even p =
+    in_eights least most n (nothing (λ z. Range key z) _ p.in_range)
+eights_or key least most default (Some (integer (negsuc n))) within even p =
+    let h = nothing (λ z. Range key z) (Some (negsuc n)) p.in_range in absurd cc
 eights_or key least most default (Some (string s)) within even p = let h = p.of_kind in absurd cc
 eights_or key least most default (Some (float s)) within even p = let h = p.of_kind in absurd cc
 eights_or key least most default (Some (boolean s)) within even p = let h = p.of_kind in absurd cc
@@ -104,7 +113,8 @@ short (array z) h = omega arith
 short (table z) h = omega arith
 
 -- a required string
-string_short : (key : Key) (o : Option Data) → Passes (key, OneString, Required) o → length (unwrap_or (option_and_then as_str o) []) ≤ 4096
+string_short : (key : Key) (o : Option Data) → Passes (key, OneString, Required) o
+    → length (unwrap_or (option_and_then as_str o) []) ≤ 4096
 string_short key None p = omega arith
 string_short key (Some (string s)) p = short (string s) (nothing (λ z. Range key z) _ p.in_range)
 string_short key (Some (integer s)) p = omega arith
@@ -117,18 +127,23 @@ string_short key (Some (table s)) p = omega arith
 -- strings whose lengths are not bad
 all_short : (ds : List Data) → first_of bad_length ds ≡ None → AllByRecursion (λ d. length (string_of d) ≤ 4096) ds
 all_short [] h = tt
-all_short (d ∷ ds) h = let (here, there) = neither (bad_length d) (first_of bad_length ds) h in (short d here, all_short ds there)
+all_short (d ∷ ds) h =
+    let (here, there) = neither (bad_length d) (first_of bad_length ds) h in (short d here, all_short ds there)
 
 -- required strings
-strings_short : (key : Key) (o : Option Data) → Passes (key, Strings, Required) o → AllByRecursion (λ d. length (string_of d) ≤ 4096) (unwrap_or (option_map values_in o) [])
+strings_short : (key : Key) (o : Option Data) → Passes (key, Strings, Required) o
+    → AllByRecursion (λ d. length (string_of d) ≤ 4096) (unwrap_or (option_map values_in o) [])
 strings_short key None p = tt
 strings_short key (Some d) p = all_short (values_in d) (nothing (λ z. Range key z) _ p.in_range)
 
 -- every row passes
-passes : (ms : Members) (i : ℕ) (default : Row) → i < length settings_rows → rows_refusal ms ≡ None → Passes (get_or settings_rows i default) (value_at ms (get_or settings_rows i default).0)
+passes : (ms : Members) (i : ℕ) (default : Row) → i < length settings_rows → rows_refusal ms ≡ None
+    → Passes (get_or settings_rows i default) (value_at ms (get_or settings_rows i default).0)
 passes ms i default within h =
     let (given, rest) = neither (first_of (row_refusal IsGiven ms) settings_rows) _ h in
-    let (kinds, ranges) = neither (first_of (row_refusal HasKind ms) settings_rows) (first_of (row_refusal IsInRange ms) settings_rows) rest in
+    let (kinds, ranges) =
+    neither (first_of (row_refusal HasKind ms) settings_rows)
+    (first_of (row_refusal IsInRange ms) settings_rows) rest in
     record {
       given = first_of_none (row_refusal IsGiven ms) settings_rows i default within given;
       of_kind = first_of_none (row_refusal HasKind ms) settings_rows i default within kinds;
@@ -145,23 +160,37 @@ within ms h =
       spectra = needed Spectra 1 4096 _ (passes ms 2 default (omega arith) h);
       heaps = needed Heaps 1 4096 _ (passes ms 3 default (omega arith) h);
       step = needed Step 1 (2 ^ 40) _ (passes ms 4 default (omega arith) h);
-      start = given_or Start 0 (2 ^ 48 - 1) 0 (2 ^ 48 - 1) _ (record { least_met = omega arith; most_met = omega arith }) (omega arith) (passes ms 5 default (omega arith) h);
+      start = given_or Start 0 (2 ^ 48 - 1) 0 (2 ^ 48 - 1) _
+          (record { least_met = omega arith; most_met = omega arith }) (omega arith)
+          (passes ms 5 default (omega arith) h);
       accumulations = needed Accumulations 1 1048576 _ (passes ms 6 default (omega arith) h);
-      lag = given_or Lag 1 16 2 16 _ (record { least_met = omega arith; most_met = omega arith }) (omega arith) (passes ms 7 default (omega arith) h);
-      leap = given_or Leap 0 (2 ^ 48 - 1) 0 (2 ^ 48 - 1) _ (record { least_met = omega arith; most_met = omega arith }) (omega arith) (passes ms 8 default (omega arith) h);
-      window = given_or Window 1 64 8 64 _ (record { least_met = omega arith; most_met = omega arith }) (omega arith) (passes ms 9 default (omega arith) h);
-      slots = given_or Slots 1 64 4 64 _ (record { least_met = omega arith; most_met = omega arith }) (omega arith) (passes ms 10 default (omega arith) h);
-      workers = given_or Workers 0 64 1 64 _ (record { least_met = omega arith; most_met = omega arith }) (omega arith) (passes ms 11 default (omega arith) h);
-      packet = (eights_or Packet 64 8192 1024 _ (record { least_met = omega arith; most_met = omega arith }) refl (passes ms 12 default (omega arith) h)).0;
-      packet_in_eights = (eights_or Packet 64 8192 1024 _ (record { least_met = omega arith; most_met = omega arith }) refl (passes ms 12 default (omega arith) h)).1;
-      heap_limit = given_or HeapLimit 1 2097152 (default_limit ms) (max 2097152 (default_limit ms)) _ (record { least_met = omega arith; most_met = omega arith }) (omega arith) (passes ms 13 default (omega arith) h);
-      packet_limit = given_or PacketLimit 1 (2 ^ 40) (2 ^ 40) (2 ^ 40) _ (record { least_met = omega arith; most_met = omega arith }) (omega arith) (passes ms 14 default (omega arith) h);
+      lag = given_or Lag 1 16 2 16 _ (record { least_met = omega arith; most_met = omega arith }) (omega arith)
+          (passes ms 7 default (omega arith) h);
+      leap = given_or Leap 0 (2 ^ 48 - 1) 0 (2 ^ 48 - 1) _ (record { least_met = omega arith; most_met = omega arith })
+          (omega arith) (passes ms 8 default (omega arith) h);
+      window = given_or Window 1 64 8 64 _ (record { least_met = omega arith; most_met = omega arith }) (omega arith)
+          (passes ms 9 default (omega arith) h);
+      slots = given_or Slots 1 64 4 64 _ (record { least_met = omega arith; most_met = omega arith }) (omega arith)
+          (passes ms 10 default (omega arith) h);
+      workers = given_or Workers 0 64 1 64 _ (record { least_met = omega arith; most_met = omega arith }) (omega arith)
+          (passes ms 11 default (omega arith) h);
+      packet = (eights_or Packet 64 8192 1024 _ (record { least_met = omega arith; most_met = omega arith }) refl
+          (passes ms 12 default (omega arith) h)).0;
+      packet_in_eights = (eights_or Packet 64 8192 1024 _ (record { least_met = omega arith; most_met = omega arith })
+          refl (passes ms 12 default (omega arith) h)).1;
+      heap_limit = given_or HeapLimit 1 2097152 (default_limit ms) (max 2097152 (default_limit ms)) _
+          (record { least_met = omega arith; most_met = omega arith }) (omega arith)
+          (passes ms 13 default (omega arith) h);
+      packet_limit = given_or PacketLimit 1 (2 ^ 40) (2 ^ 40) (2 ^ 40) _
+          (record { least_met = omega arith; most_met = omega arith }) (omega arith)
+          (passes ms 14 default (omega arith) h);
       inputs = strings_short Inputs _ (passes ms 16 default (omega arith) h);
       output = string_short Output _ (passes ms 17 default (omega arith) h);
     }
 
 -- a number that is in its range as it is printed is in its range
-printed_within : (key : Key) (least most n : ℕ) → most < 2 ^ 63 - 1 → option_map (λ z. Range key z) (out_of least most (pos (printed n))) ≡ None → IsWithin n least most
+printed_within : (key : Key) (least most n : ℕ) → most < 2 ^ 63 - 1
+    → option_map (λ z. Range key z) (out_of least most (pos (printed n))) ≡ None → IsWithin n least most
 printed_within key least most n low h =
     let is = in_range least most (printed n) (nothing (λ z. Range key z) _ h) in
     record { least_met = omega (arith, is.least_met); most_met = omega (arith, is.most_met, low) }
@@ -171,9 +200,14 @@ pub numbers_within : (n : PlainNumbers) → numbers_refusal n ≡ None → HasNu
 numbers_within n h =
     let default : Row = (Antennas, OneString, Required) in
     record {
-      antennas = printed_within Antennas 1 64 n.antennas (omega arith) (first_of_none (number_refusal n) settings_rows 0 default (omega arith) h);
-      channels = printed_within Channels 1 4096 n.channels (omega arith) (first_of_none (number_refusal n) settings_rows 1 default (omega arith) h);
-      spectra = printed_within Spectra 1 4096 n.spectra (omega arith) (first_of_none (number_refusal n) settings_rows 2 default (omega arith) h);
-      heaps = printed_within Heaps 1 4096 n.heaps (omega arith) (first_of_none (number_refusal n) settings_rows 3 default (omega arith) h);
-      accumulations = printed_within Accumulations 1 1048576 n.accumulations (omega arith) (first_of_none (number_refusal n) settings_rows 6 default (omega arith) h);
+      antennas = printed_within Antennas 1 64 n.antennas (omega arith)
+          (first_of_none (number_refusal n) settings_rows 0 default (omega arith) h);
+      channels = printed_within Channels 1 4096 n.channels (omega arith)
+          (first_of_none (number_refusal n) settings_rows 1 default (omega arith) h);
+      spectra = printed_within Spectra 1 4096 n.spectra (omega arith)
+          (first_of_none (number_refusal n) settings_rows 2 default (omega arith) h);
+      heaps = printed_within Heaps 1 4096 n.heaps (omega arith)
+          (first_of_none (number_refusal n) settings_rows 3 default (omega arith) h);
+      accumulations = printed_within Accumulations 1 1048576 n.accumulations (omega arith)
+          (first_of_none (number_refusal n) settings_rows 6 default (omega arith) h);
     }

@@ -55,11 +55,13 @@ out_of least most z = if int_le (pos least) z && int_le z (pos most) then None e
 
 -- an integer that is not in the range or no multiple of 8
 abbrev pub out_of_eights : ℕ → ℕ → ℤ → Option ℤ
-out_of_eights least most z = if int_le (pos least) z && int_le z (pos most) && (unsigned_abs z % 8 == 0) then None else Some z
+out_of_eights least most z =
+    if int_le (pos least) z && int_le z (pos most) && (unsigned_abs z % 8 == 0) then None else Some z
 
 -- the length of a string that has not 1 to 4,096 bytes
 abbrev pub bad_length : Data → Option ℤ
-bad_length d = option_and_then (λ s. if nat_le 1 (length s) && nat_le (length s) 4096 then None else Some (pos (length s))) (as_str d)
+bad_length d = option_and_then
+    (λ s. if nat_le 1 (length s) && nat_le (length s) 4096 then None else Some (pos (length s))) (as_str d)
 
 -- the value, or its length, where it is not in the range that the rule allows
 abbrev pub out_of_range : Rule → Data → Option ℤ

@@ -56,7 +56,8 @@ pub fn read(alloc: Global, bytes: &[u8]) -> Result<Settings, SetRefusal>
 // The table that the bytes are.
 fn parse(alloc: Global, bytes: &[u8]) -> Result<Table, SetRefusal>
     ensures ok { IfOk result (λ t. document bytes.now ≡ Some (table_view t)) }
-    ensures err { IfErr result (λ e. (e ≡ SetRefusal.NoMemory) ⊎ ((e ≡ SetRefusal.NotToml) × (document bytes.now ≡ None))) }
+    ensures err { IfErr result
+        (λ e. (e ≡ SetRefusal.NoMemory) ⊎ ((e ≡ SetRefusal.NotToml) × (document bytes.now ≡ None))) }
 {
     match toml::table_from_slice(alloc, bytes) {
         Ok(table) => Ok(table),

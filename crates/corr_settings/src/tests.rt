@@ -89,7 +89,8 @@ fn numbers_of_a_command_line(rt: HostRuntime) {
         accumulations: 1,
     };
     assert!(rt;
-        matches!(plain_settings(&numbers), Ok(plan) if plan.lag == 1 && plan.preset && plan.heap_limit == 4100 && antenna_refusal(&plan, 1).is_none())
+        matches!(plain_settings(&numbers), Ok(plan)
+            if plan.lag == 1 && plan.preset && plan.heap_limit == 4100 && antenna_refusal(&plan, 1).is_none())
     );
     let many = PlainNumbers {
         antennas: u64::MAX,

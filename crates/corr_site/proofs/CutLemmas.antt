@@ -14,11 +14,17 @@ sum_from : (n : ℕ) (lens : List ℕ) → sum (n ∷ lens) ≡ n + sum lens
 sum_from n lens = grind (arith, common_steps)
 
 -- one more length and its bytes are one more string
-pub cut_up_push : (lens bytes more : List ℕ) → sum lens ≡ length bytes → cut_up (lens ++ length more ∷ []) (bytes ++ more) ≡ cut_up lens bytes ++ more ∷ []
+pub cut_up_push : (lens bytes more : List ℕ) → sum lens ≡ length bytes
+    → cut_up (lens ++ length more ∷ []) (bytes ++ more) ≡ cut_up lens bytes ++ more ∷ []
 cut_up_push [] [] more h = ap (λ x. x ∷ []) (take-length more)
 cut_up_push [] (b ∷ bytes) more h = absurd (omega arith)
 cut_up_push (n ∷ lens) bytes more h =
     let all : n + sum lens ≡ length bytes = grind (arith, sum_from n lens) in
     let within : n ≤ length bytes = omega arith in
     let left : sum lens ≡ length (drop n bytes) = omega (arith, length-drop n bytes) in
-    rw (take-append-le n bytes more within, drop-append-le n bytes more within, cut_up_push lens (drop n bytes) more left) refl
+    rw (
+      take-append-le n bytes more within,
+      drop-append-le n bytes more within,
+      cut_up_push lens (drop n bytes)
+          more left,
+    ) refl

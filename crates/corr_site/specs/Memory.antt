@@ -105,7 +105,8 @@ pub record IsSource (list : Vec (Vec ℕ)) (faults : Faults) (cut : ℕ) : Type 
   pub cut_is : cut ≡ least_call (length list.items) faults.fails
   pub within : cut ≤ vec_len list
 
--- a sink of byte strings: those that were sent, how many more strings and bytes there is room for, and where it is begun
+-- a sink of byte strings: those that were sent, how many more
+-- strings and bytes there is room for, and where it is begun
 pub record Sink : Type 0 where
   pub sent : List (List ℕ)
   pub strings : ℕ
@@ -125,7 +126,12 @@ sink_takes s len = not (is_failing s.faults) && (nat_lt 0 s.strings && nat_le le
 abbrev pub sink_sent : Sink → List ℕ → Sink
 sink_sent s bytes =
     if sink_takes s (length bytes)
-    then record s { sent = s.sent ++ bytes ∷ []; strings = s.strings - 1; room = s.room - length bytes; faults = called s.faults }
+    then record s {
+      sent = s.sent ++ bytes ∷ [];
+      strings = s.strings - 1;
+      room = s.room - length bytes;
+      faults = called s.faults;
+    }
     else record s { faults = raised (called s.faults) }
 
 -- the strings of these lengths, of which the bytes are made up

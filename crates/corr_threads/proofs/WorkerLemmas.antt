@@ -102,7 +102,8 @@ refuses_more v from n slot h few inside at all refuses = λ i s less after. elim
       let r = all i s below after in
       record {
         shown = r.shown;
-        is_held = get_or-set_other v.held slot s (Some h) None (λ e. slots_apart v.plan.slots from i n s slot after at below few (sym e))
+        is_held = get_or-set_other v.held slot s (Some h) None
+            (λ e. slots_apart v.plan.slots from i n s slot after at below few (sym e))
             ∙ r.is_held;
         refuses = r.refuses;
       }

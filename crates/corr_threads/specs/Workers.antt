@@ -31,7 +31,7 @@ pub record IsWorker (v : WorkerView) (work : WorkView) : Type 0 where
   pub first_inside : v.first < v.plan.slots
   pub each_slot : length v.held ≡ v.plan.slots
 
--- what the slot showed when it refused last can't be taken
+-- what the slot showed when it last refused can't be taken
 pub record RefusesAt (v : WorkerView) (slot : ℕ) : Type 0 where
   pub shown : Held
   pub is_held : get_or v.held slot None ≡ Some shown
@@ -45,12 +45,12 @@ RefusesEach v = (s : ℕ) → s < v.plan.slots → RefusesAt v s
 abbrev pub RefusesFrom : WorkerView → ℕ → ℕ → Type 0
 RefusesFrom v from count = (i s : ℕ) → i < count → IsAfter v.plan.slots from i s → RefusesAt v s
 
--- what the slots showed when they refused last is as it was, but for so many from this one on
+-- what the slots showed when they last refused is as it was, but for so many from this one on
 abbrev pub StayPast : WorkerView → WorkerView → ℕ → ℕ → Type 0
 StayPast old new from count = (i s : ℕ) → count ≤ i → i < new.plan.slots → IsAfter new.plan.slots from i s
     → get_or new.held s None ≡ get_or old.held s None
 
--- what the slot showed when it refused last has a number past the last
+-- what the slot showed when it last refused has a number past the last
 pub record PastAt (v : WorkerView) (slot : ℕ) : Type 0 where
   pub shown : Held
   pub is_held : get_or v.held slot None ≡ Some shown
@@ -64,9 +64,9 @@ PastTo v count = (s : ℕ) → s < count → PastAt v s
 abbrev pub EachPast : WorkerView → Type 0
 EachPast v = PastTo v v.plan.slots
 
--- one work more was computed; the count stays at 2^64 - 1 once it is there. The slots from the first that is tried up to
--- that of the work refused in this turn, and what that one and the others showed when they refused last is as it was.
--- The next turn begins behind that slot
+-- one work more was computed, of a slot that comes some number after the first; the count stays at 2^64 - 1 once it is
+-- there. Each slot that was tried before it refused in this turn. What it and those after it showed when they last
+-- refused is as it was. The next turn begins behind it
 pub record ComputesOne (old new : WorkerView) : Type 0 where
   pub one_more : new.computed ≡ min (old.computed + 1) (2 ^ 64 - 1)
   pub tried : ℕ

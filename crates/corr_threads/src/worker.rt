@@ -32,10 +32,17 @@ impl<O: Observation, B: Backend> Model for Worker<O, B> {
 
     ghost Value = { WorkerView };
 
-    ghost view = { λ s. record { plan = s.plan; number = s.number; first = s.first; held = s.held.items; computed = s.computed } };
+    ghost view = { λ s. record {
+      plan = s.plan;
+      number = s.number;
+      first = s.first;
+      held = s.held.items;
+      computed = s.computed;
+    } };
 
     ghost invariant = { λ s. IsWorker
-        (record { plan = s.plan; number = s.number; first = s.first; held = s.held.items; computed = s.computed }) s.work };
+        (record { plan = s.plan; number = s.number; first = s.first; held = s.held.items; computed = s.computed })
+        s.work };
 }
 
 // The slot that comes so many after this one, where the first comes after the last.
@@ -62,7 +69,13 @@ impl<O: Observation, B: Backend> Worker<O, B> {
         requires fits { Fits plan.now }
         requires free { (work.stage ≡ Stage.Free) × (work.plan ≡ plan.now) }
         ensures { IfOk result (λ w. w
-            ≡ record { plan = plan.now; number = number; first = 0; held = replicate plan.now.slots None; computed = 0 }) }
+            ≡ record {
+              plan = plan.now;
+              number = number;
+              first = 0;
+              held = replicate plan.now.slots None;
+              computed = 0;
+            }) }
     {
         Ok(Worker {
             plan: *plan,
@@ -135,7 +148,7 @@ impl<O: Observation, B: Backend> Worker<O, B> {
         }
     }
 
-    /// What a slot showed when it refused last.
+    /// What a slot showed when it last refused.
     pub fn held(&self, slot: u32) -> Option<Held>
         requires { slot < self.now.plan.slots }
         ensures { result ≡ get_or self.now.held slot None }

@@ -31,21 +31,29 @@ breaks_if : (test : Bool) (x y : Read) → Breaks x → Breaks y → Breaks (if 
 breaks_if true x y h k = h
 breaks_if false x y h k = k
 
-breaks_first : (counter : ℕ) (refusal : Option DescRefusal) (sizes : Option Sizes) → Breaks (first_by counter refusal sizes)
+breaks_first : (counter : ℕ) (refusal : Option DescRefusal) (sizes : Option Sizes)
+    → Breaks (first_by counter refusal sizes)
 breaks_first counter (Some e) sizes = breaks_broken (causes.Descriptor e)
 breaks_first counter None None = breaks_broken (causes.Form counter)
-breaks_first counter None (Some s) = breaks_if (counter == 1) (between (Head s) (Later s 2)) (broken (causes.Form counter)) (λ cause e. absurd cc) (breaks_broken (causes.Form counter))
+breaks_first counter None (Some s) =
+    breaks_if (counter == 1) (between (Head s) (Later s 2)) (broken (causes.Form counter)) (λ cause e. absurd cc)
+    (breaks_broken (causes.Form counter))
 
-breaks_view : (s : Sizes) (counter : ℕ) (timestamp : Option ℕ) (values missing : Option (List ℕ)) → Breaks (view_by s counter timestamp values missing)
-breaks_view s counter (Some timestamp) (Some values) (Some missing) = breaks_if (are_long s values missing) _ (broken (causes.Form counter)) (λ cause e. absurd cc) (breaks_broken (causes.Form counter))
+breaks_view : (s : Sizes) (counter : ℕ) (timestamp : Option ℕ) (values missing : Option (List ℕ))
+    → Breaks (view_by s counter timestamp values missing)
+breaks_view s counter (Some timestamp) (Some values) (Some missing) =
+    breaks_if (are_long s values missing) _ (broken (causes.Form counter)) (λ cause e. absurd cc)
+    (breaks_broken (causes.Form counter))
 breaks_view s counter (Some timestamp) (Some values) None = breaks_broken (causes.Form counter)
 breaks_view s counter (Some timestamp) None missing = breaks_broken (causes.Form counter)
 breaks_view s counter None values missing = breaks_broken (causes.Form counter)
 
 breaks_later : (s : Sizes) (k : ℕ) (heap : WholeHeap) → Breaks (later_read s k heap)
 breaks_later s k heap =
-    let view = view_by s heap.counter (number_item (group_of heap) 0x1600) (addressed_content (group_of heap) 0x1800) (addressed_content (group_of heap) 0x1801) in
-    breaks_if (not (heap.counter == k)) (broken (causes.Form heap.counter)) (if stops heap then between Stop Over else view) (breaks_broken (causes.Form heap.counter))
+    let view = view_by s heap.counter (number_item (group_of heap) 0x1600) (addressed_content (group_of heap) 0x1800)
+    (addressed_content (group_of heap) 0x1801) in
+    breaks_if (not (heap.counter == k)) (broken (causes.Form heap.counter))
+    (if stops heap then between Stop Over else view) (breaks_broken (causes.Form heap.counter))
     (breaks_if (stops heap) (between Stop Over) view (λ cause e. absurd cc) (breaks_view s heap.counter _ _ _))
 
 breaks_whole : (t : Turn) (heap : WholeHeap) → Breaks (whole_read t heap)
@@ -56,7 +64,9 @@ breaks_whole (Broken c) heap = breaks_broken c
 
 breaks_kept : (t : Turn) (counter : ℕ) (ps : List Parts) → Breaks (kept_read t counter ps)
 breaks_kept t counter ps =
-    breaks_if (adds_up (said_size ps) (payload_bytes ps)) (whole_read t (heap_of counter ps)) (record { answer = Nothing; after = record { turn = t; begun = ps } }) (breaks_whole t (heap_of counter ps)) (λ cause e. absurd cc)
+    breaks_if (adds_up (said_size ps) (payload_bytes ps)) (whole_read t (heap_of counter ps))
+    (record { answer = Nothing; after = record { turn = t; begun = ps } }) (breaks_whole t (heap_of counter ps))
+    (λ cause e. absurd cc)
 
 breaks_unless : (o : Option ReadCause) (r : Reading) (p : Parts) → Breaks (read_unless o r p)
 breaks_unless (Some c) r p = breaks_broken c
@@ -88,43 +98,55 @@ or_none : {A : Type 0} (o p : Option A) → option_or o p ≡ None → (o ≡ No
 or_none (Some y) p h = absurd cc
 or_none None p h = (refl, h)
 
-or_of_more : {A : Type 0} (o p q : Option A) (x : A) → option_or o p ≡ Some x → (p ≡ Some x → q ≡ Some x) → option_or o q ≡ Some x
+or_of_more : {A : Type 0} (o p q : Option A) (x : A) → option_or o p ≡ Some x → (p ≡ Some x → q ≡ Some x)
+    → option_or o q ≡ Some x
 or_of_more (Some y) p q x h k = h
 or_of_more None p q x h k = k h
 
 -- the first that is refused of some is that of more
-pub first_of_more : (place : ℕ) (xs ys : List Answer) (x : RefusedAt) → first_refused place xs ≡ Some x → first_refused place (xs ++ ys) ≡ Some x
+pub first_of_more : (place : ℕ) (xs ys : List Answer) (x : RefusedAt) → first_refused place xs ≡ Some x
+    → first_refused place (xs ++ ys) ≡ Some x
 first_of_more place [] ys x h = absurd cc
 first_of_more place (a ∷ xs) ys x h =
-    or_of_more (refused_at place (cause_in a)) (first_refused (place + 1) xs) (first_refused (place + 1) (xs ++ ys)) x h (λ e. first_of_more (place + 1) xs ys x e)
+    or_of_more (refused_at place (cause_in a)) (first_refused (place + 1) xs) (first_refused (place + 1) (xs ++ ys)) x h
+    (λ e. first_of_more (place + 1) xs ys x e)
 
 -- where none is refused before, the next one is the first, or none is
-pub first_behind : (place : ℕ) (xs ys : List Answer) → first_refused place xs ≡ None → first_refused place (xs ++ ys) ≡ first_refused (place + length xs) ys
+pub first_behind : (place : ℕ) (xs ys : List Answer) → first_refused place xs ≡ None
+    → first_refused place (xs ++ ys) ≡ first_refused (place + length xs) ys
 first_behind place [] ys h = let e : place ≡ place + 0 = omega arith in ap (λ n. first_refused n ys) e
 first_behind place (a ∷ xs) ys h =
     let both = or_none (refused_at place (cause_in a)) (first_refused (place + 1) xs) h in
     let e : place + 1 + length xs ≡ place + length (a ∷ xs) = omega arith in
-    ap (λ o. option_or o (first_refused (place + 1) (xs ++ ys))) both.0 ∙ first_behind (place + 1) xs ys both.1 ∙ ap (λ n. first_refused n ys) e
+    ap (λ o. option_or o (first_refused (place + 1) (xs ++ ys))) both.0 ∙ first_behind (place + 1) xs ys both.1 ∙ ap
+    (λ n. first_refused n ys) e
 
 or_last : {A : Type 0} (o : Option A) → option_or o None ≡ o
 or_last (Some x) = refl
 or_last None = refl
 
-pub first_next : (place : ℕ) (xs : List Answer) (a : Answer) → first_refused place xs ≡ None → first_refused place (xs ++ a ∷ []) ≡ refused_at (place + length xs) (cause_in a)
+pub first_next : (place : ℕ) (xs : List Answer) (a : Answer) → first_refused place xs ≡ None
+    → first_refused place (xs ++ a ∷ []) ≡ refused_at (place + length xs) (cause_in a)
 first_next place xs a h = first_behind place xs (a ∷ []) h ∙ or_last (refused_at (place + length xs) (cause_in a))
 
 pub answers_next : (xs : List Answer) (a : Answer) → answers_text (xs ++ a ∷ []) ≡ answers_text xs ++ answer_text a
-answers_next xs a = flat_map-append answer_text xs (a ∷ []) ∙ ap (λ t. answers_text xs ++ t) (append-nil (answer_text a))
+answers_next xs a = flat_map-append answer_text xs (a ∷ []) ∙ ap (λ t. answers_text xs ++ t)
+    (append-nil (answer_text a))
 
 -- ---- datagrams behind a refused one
 
 -- those that a broken reading is given have no lines
-nothing_more : (limit : ℕ) (r : Reading) (cause : ReadCause) (l : List (List ℕ)) → r.turn ≡ Broken cause → answers_text (seen_from limit r l) ≡ []
+nothing_more : (limit : ℕ) (r : Reading) (cause : ReadCause) (l : List (List ℕ)) → r.turn ≡ Broken cause
+    → answers_text (seen_from limit r l) ≡ []
 nothing_more limit r cause l turn =
-    ap (λ t. answers_text (seen_from limit (record { turn = t; begun = r.begun }) l)) turn ∙ ap answers_text (refused_again limit cause r.begun l) ∙ none_of_refused cause (length l)
+    ap (λ t. answers_text (seen_from limit (record { turn = t; begun = r.begun }) l)) turn ∙ ap answers_text
+    (refused_again limit cause r.begun l) ∙ none_of_refused cause (length l)
 
-rest_by : (limit place : ℕ) (read : Read) (l rest : List (List ℕ)) (x : RefusedAt) (o : Option ReadCause) → cause_in read.answer ≡ o → Breaks read → option_or (refused_at place o) (first_refused (place + 1) (seen_from limit read.after l)) ≡ Some x
-    → (first_refused (place + 1) (seen_from limit read.after l) ≡ Some x → answers_text (seen_from limit read.after (l ++ rest)) ≡ answers_text (seen_from limit read.after l))
+rest_by : (limit place : ℕ) (read : Read) (l rest : List (List ℕ)) (x : RefusedAt) (o : Option ReadCause)
+    → cause_in read.answer ≡ o → Breaks read
+    → option_or (refused_at place o) (first_refused (place + 1) (seen_from limit read.after l)) ≡ Some x
+    → (first_refused (place + 1) (seen_from limit read.after l) ≡ Some x
+    → answers_text (seen_from limit read.after (l ++ rest)) ≡ answers_text (seen_from limit read.after l))
     → answers_text (seen_from limit read.after (l ++ rest)) ≡ answers_text (seen_from limit read.after l)
 rest_by limit place read l rest x None e breaks h goes = goes h
 rest_by limit place read l rest x (Some cause) e breaks h goes =
@@ -132,8 +154,12 @@ rest_by limit place read l rest x (Some cause) e breaks h goes =
     nothing_more limit read.after cause (l ++ rest) turn ∙ sym (nothing_more limit read.after cause l turn)
 
 -- behind the first that is refused there are no lines
-pub rest_refused : (limit place : ℕ) (r : Reading) (l rest : List (List ℕ)) (x : RefusedAt) → first_refused place (seen_from limit r l) ≡ Some x → answers_text (seen_from limit r (l ++ rest)) ≡ answers_text (seen_from limit r l)
+pub rest_refused : (limit place : ℕ) (r : Reading) (l rest : List (List ℕ)) (x : RefusedAt)
+    → first_refused place (seen_from limit r l) ≡ Some x
+    → answers_text (seen_from limit r (l ++ rest)) ≡ answers_text (seen_from limit r l)
 rest_refused limit place r [] rest x h = absurd cc
 rest_refused limit place r (bytes ∷ l) rest x h =
     let read = next_read limit r bytes in
-    ap (λ t. answer_text read.answer ++ t) (rest_by limit place read l rest x (cause_in read.answer) refl (breaks_next limit r bytes) h (λ e. rest_refused limit (place + 1) read.after l rest x e))
+    ap (λ t. answer_text read.answer ++ t)
+    (rest_by limit place read l rest x (cause_in read.answer) refl (breaks_next limit r bytes) h
+    (λ e. rest_refused limit (place + 1) read.after l rest x e))

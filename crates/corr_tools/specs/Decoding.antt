@@ -65,7 +65,8 @@ first_refused place (answer ∷ rest) = option_or (refused_at place (cause_in an
 -- how the reading of datagrams ends, by the answers to them
 abbrev pub EndsAs : List Answer → Ended → Type 0
 EndsAs answers ended.Whole = (first_refused 0 answers ≡ None) × (list_any is_stop answers ≡ true)
-EndsAs answers (ended.NoStop count) = (first_refused 0 answers ≡ None) × (list_any is_stop answers ≡ false) × (count ≡ length answers)
+EndsAs answers (ended.NoStop count) =
+    (first_refused 0 answers ≡ None) × (list_any is_stop answers ≡ false) × (count ≡ length answers)
 EndsAs answers (ended.Refused place cause) = first_refused 0 answers ≡ Some (record { place = place; cause = cause })
 EndsAs answers ended.SourceFault = first_refused 0 answers ≡ None
 
@@ -89,15 +90,18 @@ pub record Reads (limit : ℕ) (strings : List (List ℕ)) (before now : Option 
 abbrev pub TakesTo : Option (List (List ℕ)) → ℕ → ℕ → List (List ℕ) → Ended → Type 0
 TakesTo gives given now taken ended.Whole = TakesAll gives given now string_limit taken
 TakesTo gives given now taken (ended.NoStop count) = TakesAll gives given now string_limit taken
-TakesTo gives given now taken (ended.Refused place cause) = TakesFirst gives given now string_limit taken × (length taken ≡ place + 1)
+TakesTo gives given now taken (ended.Refused place cause) =
+    TakesFirst gives given now string_limit taken × (length taken ≡ place + 1)
 TakesTo gives given now taken ended.SourceFault = TakesAll gives given now string_limit taken
 
 -- the datagrams taken were read so, and so are all that were to come, where the source tells what it gives
-pub record Decodes (limit : ℕ) (gives : Option (List (List ℕ))) (given given_now : ℕ) (before now : Option (List ℕ)) (result : Decoded) : Type 0 where
+pub record Decodes (limit : ℕ) (gives : Option (List (List ℕ))) (given given_now : ℕ) (before now : Option (List ℕ))
+    (result : Decoded) : Type 0 where
   pub taken : List (List ℕ)
   pub takes : TakesTo gives given given_now taken result.ended
   pub reads : Reads limit taken before now result
-  pub told : (strings : List (List ℕ)) → gives ≡ Some strings → Reads limit (coming strings given string_limit) before now result
+  pub told : (strings : List (List ℕ)) → gives ≡ Some strings
+      → Reads limit (coming strings given string_limit) before now result
 
 -- the count of faults of the source rises where it failed, and stays else
 abbrev pub DecodeCause : ℕ → ℕ → Ended → Type 0
@@ -107,18 +111,21 @@ DecodeCause before now (ended.Refused place cause) = now ≡ before
 DecodeCause before now ended.SourceFault = Rises before now
 
 -- a datagram is read: what the reader stands for, the answer, and the lines on it
-pub record Shows (old : ReaderState) (bytes : List ℕ) (new : ReaderState) (printed : Result Unit Failed) (before now : Option (List ℕ)) (result : Shown) : Type 0 where
+pub record Shows (old : ReaderState) (bytes : List ℕ) (new : ReaderState) (printed : Result Unit Failed)
+    (before now : Option (List ℕ)) (result : Shown) : Type 0 where
   pub limit : new.live.limit ≡ old.live.limit
   pub stands : (l : List (List ℕ)) → StandsFor old l → StandsFor new (l ++ bytes ∷ [])
   pub answer : Answer
-  pub answered : (l : List (List ℕ)) → StandsFor old l → seen old.live.limit (l ++ bytes ∷ []) ≡ seen old.live.limit l ++ answer ∷ []
+  pub answered : (l : List (List ℕ)) → StandsFor old l
+      → seen old.live.limit (l ++ bytes ∷ []) ≡ seen old.live.limit l ++ answer ∷ []
   pub cause : cause_in answer ≡ result.cause
   pub written : GoesOn printed before now result.print (answer_text answer)
 
 -- so many datagrams that the reader stands for, of which none is refused, end so
 abbrev pub EndsSo : ReaderState → ℕ → Ended → Type 0
 EndsSo reader count how =
-    (l : List (List ℕ)) → StandsFor reader l → first_refused 0 (seen reader.live.limit l) ≡ None → count ≡ length l → EndsAs (seen reader.live.limit l) how
+    (l : List (List ℕ)) → StandsFor reader l → first_refused 0 (seen reader.live.limit l) ≡ None → count ≡ length l
+    → EndsAs (seen reader.live.limit l) how
 
 -- the input ended: no datagram was refused, and the source did not fail
 abbrev pub IsOfEnd : Ended → Type 0

@@ -38,7 +38,8 @@ abbrev pub inspect_text : {T E : Type 0} → List (List ℕ) → Result T E → 
 inspect_text strings source = datagrams_from 0 strings ++ (datagrams_text (length strings) ++ fault_text source)
 
 -- all datagrams that were to come were taken, and the lines on them are written, or a front where a write failed
-pub record Inspects (gives : Option (List (List ℕ))) (given given_now : ℕ) (before now : Option (List ℕ)) (result : Inspected) : Type 0 where
+pub record Inspects (gives : Option (List (List ℕ))) (given given_now : ℕ) (before now : Option (List ℕ))
+    (result : Inspected) : Type 0 where
   pub taken : List (List ℕ)
   pub takes : TakesAll gives given given_now string_limit taken
   pub written : Writes before now result.print (inspect_text taken result.source)

@@ -6,23 +6,27 @@ use Rattle.corr_tools.specs.declared.relaying.Relayed.TheVariants.{Done, SourceF
 use Rattle.corr_tools.specs.Taking.{TakesAll, TakesFirst}
 
 -- so many strings were sent: all that were to come, up to the limit
-pub record SendsAll (gives : Option (List (List ℕ))) (given given_now limit : ℕ) (before now : Option (List (List ℕ))) (count : ℕ) : Type 0 where
+pub record SendsAll (gives : Option (List (List ℕ))) (given given_now limit : ℕ) (before now : Option (List (List ℕ)))
+    (count : ℕ) : Type 0 where
   pub strings : List (List ℕ)
   pub taken : TakesAll gives given given_now limit strings
   pub sent : Appended before strings now
   pub counted : count ≡ length strings
 
 -- the first that were to come were sent, and the next one was taken and not sent
-pub record SendsFirst (gives : Option (List (List ℕ))) (given given_now limit : ℕ) (before now : Option (List (List ℕ))) : Type 0 where
+pub record SendsFirst (gives : Option (List (List ℕ))) (given given_now limit : ℕ)
+    (before now : Option (List (List ℕ))) : Type 0 where
   pub strings : List (List ℕ)
   pub unsent : List ℕ
   pub taken : TakesFirst gives given given_now limit (strings ++ unsent ∷ [])
   pub sent : Appended before strings now
 
 -- what was taken and sent, by how the relay ended
-abbrev pub Relays : Option (List (List ℕ)) → ℕ → ℕ → ℕ → Option (List (List ℕ)) → Option (List (List ℕ)) → Relayed → Type 0
+abbrev pub Relays : Option (List (List ℕ)) → ℕ → ℕ → ℕ → Option (List (List ℕ)) → Option (List (List ℕ))
+    → Relayed → Type 0
 Relays gives given given_now limit before now (Done count) = SendsAll gives given given_now limit before now count
-Relays gives given given_now limit before now (SourceFault count) = SendsAll gives given given_now limit before now count
+Relays gives given given_now limit before now (SourceFault count) =
+    SendsAll gives given given_now limit before now count
 Relays gives given given_now limit before now SinkFault = SendsFirst gives given given_now limit before now
 
 -- the count of faults rises of what failed, and of nothing else

@@ -112,7 +112,8 @@ fn print_next<P: TextSink>(
     seen: &Seen<'_>,
     print: &mut P,
 ) -> Result<(), Failed>
-    ensures written { GoesOn printed (P.written print.old) (P.written print.new) result (answer_text (answer_of seen.now)) }
+    ensures written { GoesOn printed (P.written print.old) (P.written print.new) result
+        (answer_text (answer_of seen.now)) }
     ensures cause { GoesOnCause printed (P.faults print.old) (P.faults print.new) result }
 {
     match printed {

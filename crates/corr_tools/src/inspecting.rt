@@ -59,7 +59,8 @@ fn print_next<P: TextSink>(
     bytes: &[u8],
     print: &mut P,
 ) -> Result<(), Failed>
-    ensures written { GoesOn printed (P.written print.old) (P.written print.new) result (datagram_text place bytes.now) }
+    ensures written { GoesOn printed (P.written print.old) (P.written print.new) result
+        (datagram_text place bytes.now) }
     ensures cause { GoesOnCause printed (P.faults print.old) (P.faults print.new) result }
 {
     match printed {
@@ -76,7 +77,8 @@ fn end<P: TextSink>(
     print: &mut P,
 ) -> Inspected
     ensures source { result.source ≡ source }
-    ensures written { GoesOn printed (P.written print.old) (P.written print.new) result.print (datagrams_text count ++ fault_text source) }
+    ensures written { GoesOn printed (P.written print.old) (P.written print.new) result.print
+        (datagrams_text count ++ fault_text source) }
     ensures cause { GoesOnCause printed (P.faults print.old) (P.faults print.new) result.print }
 {
     let print = match printed {
@@ -92,7 +94,8 @@ fn print_end<P: TextSink>(
     source: Result<(), Failed>,
     print: &mut P,
 ) -> Result<(), Failed>
-    ensures written { Writes (P.written print.old) (P.written print.new) result (datagrams_text count ++ fault_text source) }
+    ensures written { Writes (P.written print.old) (P.written print.new) result
+        (datagrams_text count ++ fault_text source) }
     ensures cause { HasCause (P.faults print.old) (P.faults print.new) result }
 {
     if let Err(failed) = print_datagrams(count, print) {

@@ -53,7 +53,8 @@ fn print_packet<P: TextSink>(place: u64, packet: &Packet<'_>, print: &mut P) -> 
 
 // Prints a line for each pointer of the packet's heap.
 fn print_pointers<P: TextSink>(packet: &Packet<'_>, print: &mut P) -> Result<(), Failed>
-    ensures written { Writes (P.written print.old) (P.written print.new) result (flat_map pointer_text packet.now.pointers) }
+    ensures written { Writes (P.written print.old) (P.written print.new) result
+        (flat_map pointer_text packet.now.pointers) }
     ensures cause { HasCause (P.faults print.old) (P.faults print.new) result }
 {
     for pointer in packet.pointers() {

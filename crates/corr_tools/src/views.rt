@@ -75,7 +75,8 @@ fn print_channels<P: TextSink>(
     print: &mut P,
 ) -> Result<(), Failed>
     requires { baseline < (view_of view.now).sizes.baselines }
-    ensures written { Writes (P.written print.old) (P.written print.new) result (channels_text (view_of view.now) baseline) }
+    ensures written { Writes (P.written print.old) (P.written print.new) result
+        (channels_text (view_of view.now) baseline) }
     ensures cause { HasCause (P.faults print.old) (P.faults print.new) result }
 {
     if let Err(failed) = print_baseline(view, baseline, print) {
@@ -87,7 +88,8 @@ fn print_channels<P: TextSink>(
 // Prints a line for each channel of a baseline, in order.
 fn print_values<P: TextSink>(view: &VisView<'_>, baseline: u32, print: &mut P) -> Result<(), Failed>
     requires { baseline < (view_of view.now).sizes.baselines }
-    ensures written { Writes (P.written print.old) (P.written print.new) result (values_text (view_of view.now) baseline) }
+    ensures written { Writes (P.written print.old) (P.written print.new) result
+        (values_text (view_of view.now) baseline) }
     ensures cause { HasCause (P.faults print.old) (P.faults print.new) result }
 {
     let count = view.channels();
@@ -106,7 +108,8 @@ fn print_baseline<P: TextSink>(
     print: &mut P,
 ) -> Result<(), Failed>
     requires { baseline < (view_of view.now).sizes.baselines }
-    ensures written { Writes (P.written print.old) (P.written print.new) result (baseline_text (view_of view.now) baseline) }
+    ensures written { Writes (P.written print.old) (P.written print.new) result
+        (baseline_text (view_of view.now) baseline) }
     ensures cause { HasCause (P.faults print.old) (P.faults print.new) result }
 {
     let mut line = [0; 1024];
@@ -123,7 +126,8 @@ fn print_channel<P: TextSink>(
 ) -> Result<(), Failed>
     requires channel { channel < (view_of view.now).sizes.channels }
     requires baseline { baseline < (view_of view.now).sizes.baselines }
-    ensures written { Writes (P.written print.old) (P.written print.new) result (channel_text (view_of view.now) channel baseline) }
+    ensures written { Writes (P.written print.old) (P.written print.new) result
+        (channel_text (view_of view.now) channel baseline) }
     ensures cause { HasCause (P.faults print.old) (P.faults print.new) result }
 {
     let mut line = [0; 1024];

@@ -46,7 +46,8 @@ plain_words operands n = record {
 -- A F S T N, then A inputs, then one output
 abbrev pub plain_form : List (List ℕ) → Option Command
 plain_form operands =
-    option_and_then (λ n. if length operands == n.antennas + 6 then Some (Plain (plain_words operands n)) else None) (numbers_form operands)
+    option_and_then (λ n. if length operands == n.antennas + 6 then Some (Plain (plain_words operands n)) else None)
+    (numbers_form operands)
 
 -- the numbers of the command, where it has them
 abbrev pub numbers_of : Command → Option Numbers
@@ -119,7 +120,8 @@ form words = if nat_le 2 (length words) then rest_form (word_at words 1) (drop 2
 
 -- the command is the form's; usage comes exactly where there is no form
 abbrev pub Reads : Option Command → Result Command WordRefusal → Type 0
-Reads told result = MatchResult result (λ c. told ≡ Some c) (λ e. ((e ≡ NoMemory) × (is_some told ≡ true)) ⊎ ((e ≡ Usage) × (told ≡ None)))
+Reads told result = MatchResult result (λ c. told ≡ Some c)
+    (λ e. ((e ≡ NoMemory) × (is_some told ≡ true)) ⊎ ((e ≡ Usage) × (told ≡ None)))
 
 -- each antenna of `plain` has an input, and each limit is from 1 to its most
 abbrev pub IsInLimits : Command → Type 0
@@ -135,4 +137,5 @@ needs_threads words = takes_flag (word_at words 1) && not (list_any is_flag (dro
 -- the place of the first flag, or none where there is none
 abbrev pub IsFirstFlag : List (List ℕ) → Option ℕ → Type 0
 IsFirstFlag words None = list_any is_flag words ≡ false
-IsFirstFlag words (Some place) = (place < length words) × (is_flag (word_at words place) ≡ true) × (list_any is_flag (take place words) ≡ false)
+IsFirstFlag words (Some place) =
+    (place < length words) × (is_flag (word_at words place) ≡ true) × (list_any is_flag (take place words) ≡ false)

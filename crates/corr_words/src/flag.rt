@@ -45,8 +45,10 @@ pub(crate) fn flag_place(words: &[String]) -> Option<usize>
 
 // The place of the flag that the command takes.
 pub(crate) fn flag_in(command: &str, rest: &[String]) -> Option<usize>
-    ensures some { IfSome result (λ place. (takes_flag command.now ≡ true) × IsFirstFlag (map string_bytes rest.now) (Some place)) }
-    ensures none { IfNone result (takes_flag command.now ≡ true → list_any is_flag (map string_bytes rest.now) ≡ false) }
+    ensures some { IfSome result
+        (λ place. (takes_flag command.now ≡ true) × IsFirstFlag (map string_bytes rest.now) (Some place)) }
+    ensures none { IfNone result
+        (takes_flag command.now ≡ true → list_any is_flag (map string_bytes rest.now) ≡ false) }
 {
     if takes_flag(command) {
         flag_place(rest)

@@ -305,7 +305,8 @@ fn numbers_after(command: &str, rest: &[String]) -> Option<Numbers>
 
 // The numbers of the operands of `plain`.
 fn numbers_in(operands: &Operands) -> Option<Numbers>
-    ensures { result ≡ option_and_then numbers_of (if list_all is_operand operands.now then plain_form operands.now else None) }
+    ensures { result ≡ option_and_then numbers_of
+        (if list_all is_operand operands.now then plain_form operands.now else None) }
 {
     if !operands.are_sound() {
         return None;

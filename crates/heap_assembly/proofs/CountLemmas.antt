@@ -21,20 +21,23 @@ marked_before f m (suc n) within none = elim (cases_lt n m) [
   | inr before ↦ let rest = marked_before f m n before none in let here = none n before in omega (arith, rest, here)
 ]
 
-marked_range : (f g : ℕ → ℕ) (from to n : ℕ) → Marks f g from to → from ≤ to → ((i : ℕ) → from ≤ i → i < to → f i ≡ 0) → marked g n ≡ marked f n + (min n to - min n from)
+marked_range : (f g : ℕ → ℕ) (from to n : ℕ) → Marks f g from to → from ≤ to → ((i : ℕ) → from ≤ i → i < to → f i ≡ 0)
+    → marked g n ≡ marked f n + (min n to - min n from)
 marked_range f g from to zero m order free = omega arith
 marked_range f g from to (suc n) m order free =
     let before = marked_range f g from to n m order free in
     elim (cases_lt n from) [
       | inl below ↦ let here = m.below n below in omega (arith, before, here)
       | inr begun ↦ elim (cases_lt n to) [
-        | inl inside ↦ let here = m.inside n begun inside in let was = free n begun inside in omega (arith, before, here, was)
+        | inl inside ↦ let here = m.inside n begun inside in let was =
+            free n begun inside in omega (arith, before, here, was)
         | inr above ↦ let here = m.above n above in omega (arith, before, here)
       ]
     ]
 
 -- where no place of a range is marked, marking it adds its length
-pub marks_more : (f g : ℕ → ℕ) (from to n : ℕ) → Marks f g from to → ((i : ℕ) → f i < 2) → from ≤ to → any_marked f from (to - from) ≡ false → to ≤ n
+pub marks_more : (f g : ℕ → ℕ) (from to n : ℕ) → Marks f g from to → ((i : ℕ) → f i < 2) → from ≤ to
+    → any_marked f from (to - from) ≡ false → to ≤ n
     → marked g n ≡ marked f n + (to - from)
 marks_more f g from to n m small order free within =
     let none : (i : ℕ) → from ≤ i → i < to → f i ≡ 0

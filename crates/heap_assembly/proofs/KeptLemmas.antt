@@ -22,15 +22,19 @@ same_tests false false there back = refl
 abbrev pub Agrees : Option ℕ → List Parts → Type 0
 Agrees s ks = AllByRecursion (λ k. (k.size ≡ None) ⊎ (k.size ≡ s)) ks
 
-any_said_cons : (t : Option ℕ → Bool) → t None ≡ false → (own rest : Option ℕ) (later : Bool) → (t rest ≡ true → later ≡ true) → t (option_or own rest) ≡ true → (t own || later) ≡ true
+any_said_cons : (t : Option ℕ → Bool) → t None ≡ false → (own rest : Option ℕ) (later : Bool)
+    → (t rest ≡ true → later ≡ true) → t (option_or own rest) ≡ true → (t own || later) ≡ true
 any_said_cons t none None rest later by_rest said = or_right (t None) later (by_rest said)
 any_said_cons t none (Some n) rest later by_rest said = or_left (t (Some n)) later said
 
-any_said : (t : Option ℕ → Bool) → t None ≡ false → (ks : List Parts) → t (said_size ks) ≡ true → list_any (λ k. t k.size) ks ≡ true
+any_said : (t : Option ℕ → Bool) → t None ≡ false → (ks : List Parts) → t (said_size ks) ≡ true
+    → list_any (λ k. t k.size) ks ≡ true
 any_said t none [] said = absurd (false≢true (sym none ∙ said))
-any_said t none (k ∷ ks) said = any_said_cons t none k.size (said_size ks) (list_any (λ q. t q.size) ks) (any_said t none ks) said
+any_said t none (k ∷ ks) said =
+    any_said_cons t none k.size (said_size ks) (list_any (λ q. t q.size) ks) (any_said t none ks) said
 
-any_agrees : (t : Option ℕ → Bool) → t None ≡ false → (s : Option ℕ) (ks : List Parts) → Agrees s ks → list_any (λ k. t k.size) ks ≡ true → t s ≡ true
+any_agrees : (t : Option ℕ → Bool) → t None ≡ false → (s : Option ℕ) (ks : List Parts) → Agrees s ks
+    → list_any (λ k. t k.size) ks ≡ true → t s ≡ true
 any_agrees t none s [] agree some = absurd (false≢true some)
 any_agrees t none s (k ∷ ks) agree some = elim (or_cases (t k.size) (list_any (λ q. t q.size) ks) some) [
   | inl here ↦ elim agree.0 [
@@ -41,8 +45,11 @@ any_agrees t none s (k ∷ ks) agree some = elim (or_cases (t k.size) (list_any 
 ]
 
 -- a test that no absent size passes is passed by some packet where the said size passes it
-pub any_size : (t : Option ℕ → Bool) → t None ≡ false → (ks : List Parts) → Agrees (said_size ks) ks → list_any (λ k. t k.size) ks ≡ t (said_size ks)
-any_size t none ks agree = same_tests (list_any (λ k. t k.size) ks) (t (said_size ks)) (any_agrees t none (said_size ks) ks agree) (any_said t none ks)
+pub any_size : (t : Option ℕ → Bool) → t None ≡ false → (ks : List Parts) → Agrees (said_size ks) ks
+    → list_any (λ k. t k.size) ks ≡ t (said_size ks)
+any_size t none ks agree =
+    same_tests (list_any (λ k. t k.size) ks) (t (said_size ks)) (any_agrees t none (said_size ks) ks agree)
+    (any_said t none ks)
 
 or_none : (s : Option ℕ) → option_or s None ≡ s
 or_none None = refl
@@ -67,13 +74,16 @@ agrees_last None said same = inr refl
 agrees_last (Some n) None same = inl refl
 agrees_last (Some n) (Some m) same = inr (ap Some (sym (eqb-true n m (not-false (n == m) same))))
 
-agrees_with : (s : Option ℕ) (p : Parts) (ks : List Parts) → sizes_differ s p.size ≡ false → Agrees s ks → Agrees (option_or s p.size) (ks ++ p ∷ [])
+agrees_with : (s : Option ℕ) (p : Parts) (ks : List Parts) → sizes_differ s p.size ≡ false → Agrees s ks
+    → Agrees (option_or s p.size) (ks ++ p ∷ [])
 agrees_with s p [] same agree = (agrees_last s p.size same, tt)
 agrees_with s p (k ∷ ks) same agree = (agrees_later k.size s p.size agree.0, agrees_with s p ks same agree.1)
 
 -- a packet of no other size agrees too
-pub agrees_push : (ks : List Parts) (p : Parts) → sizes_differ (said_size ks) p.size ≡ false → Agrees (said_size ks) ks → Agrees (said_size (ks ++ p ∷ [])) (ks ++ p ∷ [])
-agrees_push ks p same agree = subst (λ s. Agrees s (ks ++ p ∷ [])) (sym (said_push ks p)) (agrees_with (said_size ks) p ks same agree)
+pub agrees_push : (ks : List Parts) (p : Parts) → sizes_differ (said_size ks) p.size ≡ false → Agrees (said_size ks) ks
+    → Agrees (said_size (ks ++ p ∷ [])) (ks ++ p ∷ [])
+agrees_push ks p same agree =
+    subst (λ s. Agrees s (ks ++ p ∷ [])) (sym (said_push ks p)) (agrees_with (said_size ks) p ks same agree)
 
 -- ---- ends
 
@@ -88,8 +98,17 @@ or_assoc false b c = refl
 below_max : (n a b : ℕ) → nat_lt n (max a b) ≡ (nat_lt n a || nat_lt n b)
 below_max n a b =
     same_tests (nat_lt n (max a b)) (nat_lt n a || nat_lt n b)
-    (λ less. let more = ltb-true n (max a b) less in elim (cases_lt n a) [ inl first ↦ or_left (nat_lt n a) (nat_lt n b) (lt-ltb n a first) | inr not_first ↦ or_right (nat_lt n a) (nat_lt n b) (lt-ltb n b (omega (arith, more))) ])
-    (λ either. elim (or_cases (nat_lt n a) (nat_lt n b) either) [ inl first ↦ let more = ltb-true n a first in lt-ltb n (max a b) (omega (arith, more)) | inr second ↦ let more = ltb-true n b second in lt-ltb n (max a b) (omega (arith, more)) ])
+    (λ less. let more = ltb-true n (max a b) less in elim (cases_lt n a) [
+      | inl first ↦ or_left (nat_lt n a) (nat_lt n b) (lt-ltb n a first)
+      | inr not_first ↦ or_right (nat_lt n a)
+          (nat_lt n b) (lt-ltb n b (omega (arith, more)))
+    ])
+    (λ either. elim (or_cases (nat_lt n a) (nat_lt n b) either) [
+      | inl first ↦ let more =
+          ltb-true n a first in lt-ltb n (max a b) (omega (arith, more))
+      | inr second ↦ let more =
+          ltb-true n b second in lt-ltb n (max a b) (omega (arith, more))
+    ])
 
 or_false : (a : Bool) → a ≡ (a || false)
 or_false true = refl
@@ -109,7 +128,8 @@ one_or_none : (b : Bool) → one_if b < 2
 one_or_none true = omega arith
 one_or_none false = omega arith
 
-greatest_from : (n a : ℕ) (ks : List Parts) → nat_lt n (fold max a (map end_of ks)) ≡ (nat_lt n a || list_any (λ k. nat_lt n (end_of k)) ks)
+greatest_from : (n a : ℕ) (ks : List Parts)
+    → nat_lt n (fold max a (map end_of ks)) ≡ (nat_lt n a || list_any (λ k. nat_lt n (end_of k)) ks)
 greatest_from n a [] = or_false (nat_lt n a)
 greatest_from n a (k ∷ ks) =
     greatest_from n (max a (end_of k)) ks
@@ -121,9 +141,11 @@ none_past [] = refl
 none_past (k ∷ ks) = none_past ks
 
 -- some end is past a size where the greatest is
-pub any_end : (said : Option ℕ) (ks : List Parts) → list_any (λ k. is_past said (end_of k)) ks ≡ is_past said (greatest_end ks)
+pub any_end : (said : Option ℕ) (ks : List Parts)
+    → list_any (λ k. is_past said (end_of k)) ks ≡ is_past said (greatest_end ks)
 any_end None ks = none_past ks
-any_end (Some n) ks = sym (greatest_from n 0 ks ∙ ap (λ b. b || list_any (λ k. nat_lt n (end_of k)) ks) (le-ltb n 0 (omega arith)))
+any_end (Some n) ks =
+    sym (greatest_from n 0 ks ∙ ap (λ b. b || list_any (λ k. nat_lt n (end_of k)) ks) (le-ltb n 0 (omega arith)))
 
 any_or : (f g : Parts → Bool) (ks : List Parts) → list_any (λ k. f k || g k) ks ≡ (list_any f ks || list_any g ks)
 any_or f g [] = refl
@@ -131,7 +153,8 @@ any_or f g (k ∷ ks) = ap (λ b. (f k || g k) || b) (any_or f g ks) ∙ or_swap
 
 -- an end is past a size that another says, either way round
 pub any_past : (ks : List Parts) (p : Parts) → Agrees (said_size ks) ks
-    → list_any (λ k. is_past k.size (end_of p) || is_past p.size (end_of k)) ks ≡ (is_past (said_size ks) (end_of p) || is_past p.size (greatest_end ks))
+    → list_any (λ k. is_past k.size (end_of p) || is_past p.size (end_of k)) ks
+    ≡ (is_past (said_size ks) (end_of p) || is_past p.size (greatest_end ks))
 any_past ks p agree =
     any_or (λ k. is_past k.size (end_of p)) (λ k. is_past p.size (end_of k)) ks
     ∙ ap₂ (λ a b. a || b) (any_size (λ s. is_past s (end_of p)) refl ks agree) (any_end p.size ks)
@@ -141,7 +164,8 @@ differ_none None = refl
 differ_none (Some n) = refl
 
 -- another size is said where it is not the said one
-pub any_differ : (ks : List Parts) (p : Parts) → Agrees (said_size ks) ks → list_any (λ k. sizes_differ k.size p.size) ks ≡ sizes_differ (said_size ks) p.size
+pub any_differ : (ks : List Parts) (p : Parts) → Agrees (said_size ks) ks
+    → list_any (λ k. sizes_differ k.size p.size) ks ≡ sizes_differ (said_size ks) p.size
 any_differ ks p agree = any_size (λ s. sizes_differ s p.size) (differ_none p.size) ks agree
 
 -- ---- bytes
@@ -157,7 +181,8 @@ mapped_is_some : {X Y : Type 0} (f : X → Y) (o : Option X) → is_some (option
 mapped_is_some f None = refl
 mapped_is_some f (Some x) = refl
 
-found_cons : (test : Parts → Bool) (b : Bool) (k : Parts) (rest : Option Parts) → is_some (cond b (Some k) rest) ≡ (b || is_some rest)
+found_cons : (test : Parts → Bool) (b : Bool) (k : Parts) (rest : Option Parts)
+    → is_some (cond b (Some k) rest) ≡ (b || is_some rest)
 found_cons test true k rest = refl
 found_cons test false k rest = refl
 
@@ -167,17 +192,20 @@ found_any test (k ∷ ks) = found_cons test (test k) k (find test ks) ∙ ap (λ
 
 -- a byte is brought where a packet holds it
 pub brought_any : (ks : List Parts) (k : ℕ) → is_some (byte_brought ks k) ≡ list_any (holds_byte k) ks
-brought_any ks k = mapped_is_some (λ p. slice_index p.payload (k - p.offset)) (find (holds_byte k) ks) ∙ found_any (holds_byte k) ks
+brought_any ks k = mapped_is_some (λ p. slice_index p.payload (k - p.offset)) (find (holds_byte k) ks) ∙ found_any
+    (holds_byte k) ks
 
 -- a byte of the range that a packet holds is shared
-pub shares_from_held : (ks : List Parts) (p : Parts) (k : ℕ) → p.offset ≤ k → k < end_of p → list_any (holds_byte k) ks ≡ true → list_any (share_a_byte p) ks ≡ true
+pub shares_from_held : (ks : List Parts) (p : Parts) (k : ℕ) → p.offset ≤ k → k < end_of p
+    → list_any (holds_byte k) ks ≡ true → list_any (share_a_byte p) ks ≡ true
 shares_from_held [] p k low high some = absurd (false≢true some)
 shares_from_held (q ∷ qs) p k low high some = elim (or_cases (holds_byte k q) (list_any (holds_byte k) qs) some) [
   | inl here ↦
       let its = and_parts (nat_le q.offset k) (nat_lt k (end_of q)) here in
       let its_low = leb-true q.offset k its.0 in
       let its_high = ltb-true k (end_of q) its.1 in
-      or_left (share_a_byte p q) (list_any (share_a_byte p) qs) (lt-ltb (max p.offset q.offset) (min (end_of p) (end_of q)) (omega (arith, its_low, its_high)))
+      or_left (share_a_byte p q) (list_any (share_a_byte p) qs)
+      (lt-ltb (max p.offset q.offset) (min (end_of p) (end_of q)) (omega (arith, its_low, its_high)))
   | inr later ↦ or_right (share_a_byte p q) (list_any (share_a_byte p) qs) (shares_from_held qs p k low high later)
 ]
 
@@ -198,9 +226,16 @@ held_from_shares (q ∷ qs) p some = elim (or_cases (share_a_byte p q) (list_any
         place = k;
         low = omega arith;
         high = omega (arith, gap);
-        held_there = or_left (holds_byte k q) (list_any (holds_byte k) qs) (and_from (nat_le q.offset k) (nat_lt k (end_of q)) (le-leb q.offset k (omega arith)) (lt-ltb k (end_of q) (omega (arith, gap))));
+        held_there = or_left (holds_byte k q) (list_any (holds_byte k) qs)
+            (and_from (nat_le q.offset k) (nat_lt k (end_of q)) (le-leb q.offset k (omega arith))
+            (lt-ltb k (end_of q) (omega (arith, gap))));
       }
   | inr later ↦
       let s = held_from_shares qs p later in
-      record { place = s.place; low = s.low; high = s.high; held_there = or_right (holds_byte s.place q) (list_any (holds_byte s.place) qs) s.held_there }
+      record {
+        place = s.place;
+        low = s.low;
+        high = s.high;
+        held_there = or_right (holds_byte s.place q) (list_any (holds_byte s.place) qs) s.held_there;
+      }
 ]

@@ -13,7 +13,8 @@ use Rattle.heap_assembly.specs.Marks.{mark_at, any_marked, Marks}
 abbrev mask : ℕ → ℕ → ℕ
 mask low high = bit_and ((2 ^ 64 - 1) / 2 ^ (64 - high)) ((2 ^ 64 - 1) * 2 ^ low % 2 ^ 64)
 
-bit_of_mask : (low high i : ℕ) → low ≤ 64 → bit_at (mask low high) i ≡ min (bit_at (2 ^ (64 - (64 - high)) - 1) i) (bit_at (2 ^ 64 - 2 ^ low) i)
+bit_of_mask : (low high i : ℕ) → low ≤ 64
+    → bit_at (mask low high) i ≡ min (bit_at (2 ^ (64 - (64 - high)) - 1) i) (bit_at (2 ^ 64 - 2 ^ low) i)
 bit_of_mask low high i fits =
     bit_at_and ((2 ^ 64 - 1) / 2 ^ (64 - high)) ((2 ^ 64 - 1) * 2 ^ low % 2 ^ 64) i
     ∙ ap₂ (λ a b. min (bit_at a i) (bit_at b i)) (ones_shr 64 (64 - high) (omega arith)) (ones_shl 64 low fits)
@@ -39,7 +40,8 @@ mask_above low high i fits fits_too above =
 -- ---- one place
 
 -- the places of a word are its bits
-pub mark_in : (words : List ℕ) (w i : ℕ) → 64 * w ≤ i → i < 64 * (w + 1) → mark_at words i ≡ bit_at (get_or words w 0) (i - 64 * w)
+pub mark_in : (words : List ℕ) (w i : ℕ) → 64 * w ≤ i → i < 64 * (w + 1)
+    → mark_at words i ≡ bit_at (get_or words w 0) (i - 64 * w)
 unfolding mark_at
 mark_in words w i from to =
     let e : i / 64 ≡ w = omega arith in
@@ -63,26 +65,32 @@ zero_at n i = elim (cases_lt i n) [
 -- no place of words that are all 0 is marked
 pub none_in_zeros : (words : List ℕ) (n i : ℕ) → words ≡ replicate n 0 → mark_at words i ≡ 0
 unfolding mark_at
-none_in_zeros words n i is = ap (λ ws. bit_at (get_or ws (i / 64) 0) (i % 64)) is ∙ ap (λ v. bit_at v (i % 64)) (zero_at n (i / 64)) ∙ bit_at-zero (i % 64)
+none_in_zeros words n i is =
+    ap (λ ws. bit_at (get_or ws (i / 64) 0) (i % 64)) is ∙ ap (λ v. bit_at v (i % 64)) (zero_at n (i / 64)) ∙
+    bit_at-zero (i % 64)
 
 -- ---- some place of a range
 
-pub any_from_one : (marks : ℕ → ℕ) (from n i : ℕ) → from ≤ i → i < from + n → marks i ≡ 1 → any_marked marks from n ≡ true
+pub any_from_one : (marks : ℕ → ℕ) (from n i : ℕ) → from ≤ i → i < from + n → marks i ≡ 1
+    → any_marked marks from n ≡ true
 any_from_one marks from zero i low high one = absurd (omega arith)
 any_from_one marks from (suc n) i low high one =
     elim (cases_lt i (from + n)) [
       | inl less ↦ let rest = any_from_one marks from n i low less one in grind (arith, rest)
-      | inr same ↦ let e : from + n ≡ i = omega arith in let here = eq-eqb (marks (from + n)) 1 (ap marks e ∙ one) in grind (arith, here)
+      | inr same ↦ let e : from + n ≡ i = omega arith in let here =
+          eq-eqb (marks (from + n)) 1 (ap marks e ∙ one) in grind (arith, here)
     ]
 
-pub any_from_none : (marks : ℕ → ℕ) (from n : ℕ) → ((i : ℕ) → from ≤ i → i < from + n → marks i ≡ 0) → any_marked marks from n ≡ false
+pub any_from_none : (marks : ℕ → ℕ) (from n : ℕ) → ((i : ℕ) → from ≤ i → i < from + n → marks i ≡ 0)
+    → any_marked marks from n ≡ false
 any_from_none marks from zero none = refl
 any_from_none marks from (suc n) none =
     let here : marks (from + n) ≡ 0 = none (from + n) (omega arith) (omega arith) in
     let rest = any_from_none marks from n (λ i low high. none i low (omega arith)) in
     ap₂ (λ m b. nat_eq m 1 || b) here rest
 
-pub none_from_any : (marks : ℕ → ℕ) (from n i : ℕ) → any_marked marks from n ≡ false → from ≤ i → i < from + n → marks i ≢ 1
+pub none_from_any : (marks : ℕ → ℕ) (from n i : ℕ) → any_marked marks from n ≡ false → from ≤ i
+    → i < from + n → marks i ≢ 1
 none_from_any marks from n i none low high one =
     let some = any_from_one marks from n i low high one in
     absurd (cc)
@@ -110,7 +118,8 @@ or_first true = refl
 or_first false = refl
 
 -- a range in two parts
-any_two : (marks : ℕ → ℕ) (from a b : ℕ) → any_marked marks from (a + b) ≡ any_marked marks (from + a) b || any_marked marks from a
+any_two : (marks : ℕ → ℕ) (from a b : ℕ)
+    → any_marked marks from (a + b) ≡ any_marked marks (from + a) b || any_marked marks from a
 any_two marks from a zero = let e : a + 0 ≡ a = omega arith in ap (λ n. any_marked marks from n) e
 any_two marks from a (suc b) =
     let e : a + suc b ≡ suc (a + b) = omega arith in
@@ -121,7 +130,9 @@ any_two marks from a (suc b) =
 
 -- a range in three parts, the last in front
 any_three : (marks : ℕ → ℕ) (from middle end to : ℕ) → from ≤ middle → middle ≤ end → end ≤ to
-    → any_marked marks from (to - from) ≡ any_marked marks end (to - end) || (any_marked marks middle (end - middle) || any_marked marks from (middle - from))
+    → any_marked marks from (to - from)
+    ≡ any_marked marks end (to - end)
+    || (any_marked marks middle (end - middle) || any_marked marks from (middle - from))
 any_three marks from middle end to a b c =
     let whole : to - from ≡ (end - from) + (to - end) = omega arith in
     let front : end - from ≡ (middle - from) + (end - middle) = omega arith in
@@ -134,19 +145,22 @@ any_three marks from middle end to a b c =
     ∙ any_two marks from (middle - from) (end - middle)
     ∙ ap (λ i. any_marked marks i (end - middle) || any_marked marks from (middle - from)) at_middle)
 
-pub any_in_front : (marks : ℕ → ℕ) (from middle end to : ℕ) → from ≤ middle → middle ≤ end → end ≤ to → any_marked marks from (middle - from) ≡ true → any_marked marks from (to - from) ≡ true
+pub any_in_front : (marks : ℕ → ℕ) (from middle end to : ℕ) → from ≤ middle → middle ≤ end → end ≤ to
+    → any_marked marks from (middle - from) ≡ true → any_marked marks from (to - from) ≡ true
 any_in_front marks from middle end to a b c some =
     let last = any_marked marks end (to - end) in
     let between = any_marked marks middle (end - middle) in
     any_three marks from middle end to a b c ∙ ap (λ x. last || (between || x)) some ∙ or_third last between
 
-pub any_between : (marks : ℕ → ℕ) (from middle end to : ℕ) → from ≤ middle → middle ≤ end → end ≤ to → any_marked marks middle (end - middle) ≡ true → any_marked marks from (to - from) ≡ true
+pub any_between : (marks : ℕ → ℕ) (from middle end to : ℕ) → from ≤ middle → middle ≤ end → end ≤ to
+    → any_marked marks middle (end - middle) ≡ true → any_marked marks from (to - from) ≡ true
 any_between marks from middle end to a b c some =
     let last = any_marked marks end (to - end) in
     let front = any_marked marks from (middle - from) in
     any_three marks from middle end to a b c ∙ ap (λ y. last || (y || front)) some ∙ or_second last front
 
-pub any_at_end : (marks : ℕ → ℕ) (from middle end to : ℕ) → from ≤ middle → middle ≤ end → end ≤ to → any_marked marks from (middle - from) ≡ false → any_marked marks middle (end - middle) ≡ false
+pub any_at_end : (marks : ℕ → ℕ) (from middle end to : ℕ) → from ≤ middle → middle ≤ end → end ≤ to
+    → any_marked marks from (middle - from) ≡ false → any_marked marks middle (end - middle) ≡ false
     → any_marked marks from (to - from) ≡ any_marked marks end (to - end)
 any_at_end marks from middle end to a b c front between =
     let last = any_marked marks end (to - end) in
@@ -180,14 +194,27 @@ some_seen words w mask from to some fits below above =
     let one : bit_at n k ≡ 1 = bit.1 in
     let split : bit_at n k ≡ min (bit_at (get_or words w 0) k) (bit_at mask k) = bit_at_and (get_or words w 0) mask k in
     let small = bit_at-lt (get_or words w 0) k in
-    let low : from ≤ 64 * w + k = elim (cases_lt (64 * w + k) from) [ inl before ↦ let zero = below k word before in absurd (omega (arith, one, split, zero)) | inr not_before ↦ not_before ] in
-    let high : 64 * w + k < to = elim (cases_lt (64 * w + k) to) [ inl within ↦ within | inr past ↦ let zero = above k word past in absurd (omega (arith, one, split, zero)) ] in
+    let low : from ≤ 64 * w + k =
+    elim (cases_lt (64 * w + k) from) [
+      | inl before ↦ let zero =
+          below k word before in absurd (omega (arith, one, split, zero))
+      | inr not_before ↦ not_before
+    ] in
+    let high : 64 * w + k < to =
+    elim (cases_lt (64 * w + k) to) [
+      | inl within ↦ within
+      | inr past ↦ let zero =
+          above k word past in absurd (omega (arith, one, split, zero))
+    ] in
     let same : 64 * w + k - 64 * w ≡ k = omega arith in
-    let here : mark_at words (64 * w + k) ≡ 1 = mark_in words w (64 * w + k) (omega arith) (omega arith) ∙ ap (bit_at (get_or words w 0)) same ∙ (omega (arith, one, split, small)) in
+    let here : mark_at words (64 * w + k) ≡ 1 =
+    mark_in words w (64 * w + k) (omega arith) (omega arith) ∙ ap (bit_at (get_or words w 0)) same ∙
+    (omega (arith, one, split, small)) in
     any_from_one (mark_at words) from (to - from) (64 * w + k) low (omega arith) here
 
 -- a word that is not 0 has a mark
-pub word_seen : (words : List ℕ) (w first last : ℕ) → get_or words w 0 ≢ 0 → get_or words w 0 < 2 ^ 64 → first ≤ w → w < last
+pub word_seen : (words : List ℕ) (w first last : ℕ) → get_or words w 0 ≢ 0 → get_or words w 0 < 2 ^ 64
+    → first ≤ w → w < last
     → any_marked (mark_at words) (64 * first) (64 * last - 64 * first) ≡ true
 word_seen words w first last some fits low high =
     let n = get_or words w 0 in
@@ -196,11 +223,13 @@ word_seen words w first last some fits low high =
     let word : k < 64 = bit.0 in
     let one : bit_at n k ≡ 1 = bit.1 in
     let same : 64 * w + k - 64 * w ≡ k = omega arith in
-    let here : mark_at words (64 * w + k) ≡ 1 = mark_in words w (64 * w + k) (omega arith) (omega arith) ∙ ap (bit_at n) same ∙ one in
+    let here : mark_at words (64 * w + k) ≡ 1 =
+    mark_in words w (64 * w + k) (omega arith) (omega arith) ∙ ap (bit_at n) same ∙ one in
     any_from_one (mark_at words) (64 * first) (64 * last - 64 * first) (64 * w + k) (omega arith) (omega arith) here
 
 -- a word that is 0 has none
-pub none_in_word : (words : List ℕ) (w i : ℕ) → get_or words w 0 ≡ 0 → 64 * w ≤ i → i < 64 * (w + 1) → mark_at words i ≡ 0
+pub none_in_word : (words : List ℕ) (w i : ℕ) → get_or words w 0 ≡ 0 → 64 * w ≤ i → i < 64 * (w + 1)
+    → mark_at words i ≡ 0
 none_in_word words w i none begin end =
     mark_in words w i begin end ∙ ap (λ n. bit_at n (i - 64 * w)) none ∙ bit_at-zero (i - 64 * w)
 
@@ -241,7 +270,9 @@ abbrev pub up_to : ℕ → ℕ → ℕ → ℕ
 up_to from to w = max from (min to (64 * w))
 
 -- a word more of the range is marked
-pub marks_more_words : (old : ℕ → ℕ) (words : List ℕ) (w mask from to : ℕ) → Marks old (mark_at words) from (up_to from to w) → IsMask mask w from to → w < length words → Marks old (mark_at (set words w (bit_or (get_or words w 0) mask))) from (up_to from to (w + 1))
+pub marks_more_words : (old : ℕ → ℕ) (words : List ℕ) (w mask from to : ℕ)
+    → Marks old (mark_at words) from (up_to from to w) → IsMask mask w from to → w < length words
+    → Marks old (mark_at (set words w (bit_or (get_or words w 0) mask))) from (up_to from to (w + 1))
 marks_more_words old words w mask from to so_far m room = record {
   inside = λ i low high. elim (cases_lt i (64 * w)) [
     | inl before ↦ before_word words w mask i before ∙ so_far.inside i low (omega arith)
@@ -275,26 +306,33 @@ marks_more_words old words w mask from to so_far m room = record {
 
 -- nothing is marked where the range up to the first word is empty
 pub marks_none : (old : ℕ → ℕ) (from to : ℕ) → to ≤ from → Marks old old from to
-marks_none old from to empty = record { inside = λ i low high. absurd (omega arith); below = λ i less. refl; above = λ i more. refl }
+marks_none old from to empty =
+    record { inside = λ i low high. absurd (omega arith); below = λ i less. refl; above = λ i more. refl }
 
 -- marks up to here are marks up to there, where the two are one
 pub marks_up_to : (old new : ℕ → ℕ) (from to end : ℕ) → to ≡ end → Marks old new from to → Marks old new from end
 marks_up_to old new from to end same marks = subst (λ e. Marks old new from e) same marks
 
 -- words that are all 0 before the marks' end have no mark
-pub none_after_zeros : (words : List ℕ) (n k to : ℕ) → n ≤ length words → k ≡ n → to ≤ 64 * n → ((i : ℕ) → to ≤ i → mark_at words i ≡ 0) → (i : ℕ) → mark_at (replicate k 0 ++ drop n words) i ≡ 0
+pub none_after_zeros : (words : List ℕ) (n k to : ℕ) → n ≤ length words → k ≡ n → to ≤ 64 * n
+    → ((i : ℕ) → to ≤ i → mark_at words i ≡ 0) → (i : ℕ) → mark_at (replicate k 0 ++ drop n words) i ≡ 0
 unfolding mark_at
 none_after_zeros words n k to room same within none i = elim (cases_lt (i / 64) n) [
   | inl before ↦
-      ap (λ v. bit_at v (i % 64)) (get_or_append_left (zeros k) (drop n words) 0 (i / 64) (let l = length-replicate {A = ℕ} k 0 in omega (arith, l)) ∙ zero_at k (i / 64)) ∙ bit_at-zero (i % 64)
+      ap (λ v. bit_at v (i % 64))
+      (get_or_append_left (zeros k) (drop n words) 0 (i / 64)
+      (let l = length-replicate {A = ℕ} k 0 in omega (arith, l)) ∙ zero_at k (i / 64)) ∙ bit_at-zero (i % 64)
   | inr after ↦
       let at : n + (i / 64 - n) ≡ i / 64 = omega arith in
-      ap (λ v. bit_at v (i % 64)) (get_or-append_right (zeros k) (drop n words) n (i / 64) 0 (length-replicate {A = ℕ} k 0 ∙ same) after ∙ get_or-drop n words (i / 64 - n) 0 ∙ ap (λ j. get_or words j 0) at)
+      ap (λ v. bit_at v (i % 64))
+      (get_or-append_right (zeros k) (drop n words) n (i / 64) 0 (length-replicate {A = ℕ} k 0 ∙ same) after ∙
+      get_or-drop n words (i / 64 - n) 0 ∙ ap (λ j. get_or words j 0) at)
       ∙ none i (omega arith)
 ]
 
 -- one range after another
-pub marks_then : (old middle new : ℕ → ℕ) (from at to : ℕ) → from ≤ at → at ≤ to → Marks old middle from at → Marks middle new at to → Marks old new from to
+pub marks_then : (old middle new : ℕ → ℕ) (from at to : ℕ) → from ≤ at → at ≤ to → Marks old middle from at
+    → Marks middle new at to → Marks old new from to
 marks_then old middle new from at to low high first second = record {
   inside = λ i begin end. elim (cases_lt i at) [
     | inl before ↦ second.below i before ∙ first.inside i begin before
@@ -305,8 +343,10 @@ marks_then old middle new from at to low high first second = record {
 }
 
 -- words that are all ones have each mark
-pub marks_filled : (words : List ℕ) (first last count k : ℕ) → first ≤ last → last ≤ length words → count ≡ last - first → k ≡ count
-    → Marks (mark_at words) (mark_at (take first words ++ (replicate k (2 ^ 64 - 1) ++ drop count (drop first words)))) (64 * first) (64 * last)
+pub marks_filled : (words : List ℕ) (first last count k : ℕ) → first ≤ last → last ≤ length words
+    → count ≡ last - first → k ≡ count
+    → Marks (mark_at words) (mark_at (take first words ++ (replicate k (2 ^ 64 - 1) ++ drop count (drop first words))))
+    (64 * first) (64 * last)
 unfolding mark_at
 marks_filled words first last count k order room counted long_as =
     let ones = replicate k (2 ^ 64 - 1) in
@@ -315,18 +355,21 @@ marks_filled words first last count k order room counted long_as =
     record {
       inside = λ i begin end.
           ap (λ v. bit_at v (i % 64))
-          (get_or-append_right (take first words) (ones ++ drop count (drop first words)) first (i / 64) 0 long (omega arith)
+          (get_or-append_right (take first words) (ones ++ drop count (drop first words)) first (i / 64) 0
+          long (omega arith)
           ∙ get_or_append_left ones (drop count (drop first words)) 0 (i / 64 - first) (omega (arith, many))
           ∙ get_or-replicate k (i / 64 - first) (2 ^ 64 - 1) 0 (omega arith))
           ∙ bit_at_ones 64 (i % 64) (omega arith);
       below = λ i less.
           ap (λ v. bit_at v (i % 64))
-          (get_or_append_left (take first words) (ones ++ drop count (drop first words)) 0 (i / 64) (omega (arith, long))
+          (get_or_append_left (take first words) (ones ++ drop count (drop first words)) 0 (i / 64)
+          (omega (arith, long))
           ∙ get_or-take first words (i / 64) 0 (omega arith));
       above = λ i more.
           let at : first + (count + (i / 64 - first - k)) ≡ i / 64 = omega arith in
           ap (λ v. bit_at v (i % 64))
-          (get_or-append_right (take first words) (ones ++ drop count (drop first words)) first (i / 64) 0 long (omega arith)
+          (get_or-append_right (take first words) (ones ++ drop count (drop first words)) first (i / 64) 0
+          long (omega arith)
           ∙ get_or-append_right ones (drop count (drop first words)) k (i / 64 - first) 0 many (omega arith)
           ∙ get_or-drop count (drop first words) (i / 64 - first - k) 0
           ∙ get_or-drop first words (count + (i / 64 - first - k)) 0

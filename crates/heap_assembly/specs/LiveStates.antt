@@ -1,4 +1,5 @@
--- A heap that is being put together, as its state shows it, against the live heap of the definitions. This project's own.
+-- A heap that is being put together, as its state shows it, against
+-- the live heap of the definitions. This project's own.
 use Rattle.std.specs.Prelude.{◌≡◌, ℕ, Bool, true, false, ◌==◌, if◌then◌else◌, List, take, slice_index, Option, Some, None}
 use Rattle.corr_model.specs.declared.pointer.Pointer.{Pointer}
 use Rattle.corr_model.specs.Windows.{PlacedPacket}
@@ -29,7 +30,14 @@ stored e k = if mark_at e.words k == 1 then Some (slice_index e.bytes k) else No
 
 -- the live heap that the state is of
 abbrev pub live_of : LiveState → LiveHeap
-live_of e = record { counter = e.counter; size = e.size; ending = e.ending; byte = stored e; pointers = e.pointers; whole = e.whole }
+live_of e = record {
+  counter = e.counter;
+  size = e.size;
+  ending = e.ending;
+  byte = stored e;
+  pointers = e.pointers;
+  whole = e.whole;
+}
 
 -- the whole heap that the state lends: the bytes that are there
 abbrev pub lent_of : LiveState → WholeHeap

@@ -43,7 +43,8 @@ IsWholeBy e place (answers.Dropped cause) = Unit {0}
 
 -- the heap takes in the packet
 pub record TakesIn (old : LiveState) (place : ℕ) (p : Parts) (new : LiveState) (answer : Answer) : Type 0 where
-  pub stands : (ms : List PlacedPacket) (q : PlacedPacket) → q.packet ≡ p → HeapStandsFor (live_of old) ms → HeapStandsFor (live_of new) (ms ++ q ∷ [])
+  pub stands : (ms : List PlacedPacket) (q : PlacedPacket) → q.packet ≡ p → HeapStandsFor (live_of old) ms
+      → HeapStandsFor (live_of new) (ms ++ q ∷ [])
   pub outcome : (ms : List PlacedPacket) (q : PlacedPacket) → q.packet ≡ p → HeapStandsFor (live_of old) ms
       → member_outcome q.packet.counter (ms ++ q ∷ []) ≡ outcome_by q.packet.counter (ms ++ q ∷ []) answer
   pub same : is_left answer ≡ true → new ≡ old
@@ -85,12 +86,15 @@ pub record Opens (window : ℕ) (old : List LiveState) (p : Parts) (new : List L
 -- the packet, within the limit or not and with its heap at this place or none, is dropped past the limit, joins the
 -- heap at the place, or opens one
 abbrev pub StepsBy : Bool → Option ℕ → WindowState → Parts → List LiveState → Step → Type 0
-StepsBy false place old p new step = (new ≡ old.heaps) × (step ≡ record { opened = false; evicted = None; answer = answers.Dropped PastLimit })
+StepsBy false place old p new step =
+    (new ≡ old.heaps) × (step ≡ record { opened = false; evicted = None; answer = answers.Dropped PastLimit })
 StepsBy true None old p new step = Opens old.window old.heaps p new step
-StepsBy true (Some place) old p new step = Joins old.heaps place p new step.answer × (step.opened ≡ false) × (step.evicted ≡ None)
+StepsBy true (Some place) old p new step =
+    Joins old.heaps place p new step.answer × (step.opened ≡ false) × (step.evicted ≡ None)
 
 -- the width, which is at least 1, and the limit stay
-pub record Steps (within : Bool) (place : Option ℕ) (old : WindowState) (p : Parts) (new : WindowState) (step : Step) : Type 0 where
+pub record Steps (within : Bool) (place : Option ℕ) (old : WindowState) (p : Parts) (new : WindowState)
+    (step : Step) : Type 0 where
   pub low : 1 ≤ old.window
   pub window : new.window ≡ old.window
   pub limit : new.limit ≡ old.limit
@@ -104,11 +108,14 @@ pub record IsWholeAt (heaps : List LiveState) (place : ℕ) : Type 0 where
 
 -- the heap that is lent is the whole heap of the members that the heap at this place stands for
 abbrev pub IsLent : List LiveState → ℕ → WholeHeap → Type 0
-IsLent heaps place lent = (e : LiveState) (ms : List PlacedPacket) → slice_get heaps place ≡ Some e → HeapStandsFor (live_of e) ms → lent ≡ heap_of e.counter (kept_shown ms)
+IsLent heaps place lent =
+    (e : LiveState) (ms : List PlacedPacket) → slice_get heaps place ≡ Some e → HeapStandsFor (live_of e) ms
+    → lent ≡ heap_of e.counter (kept_shown ms)
 
 -- what is answered is the answer of the step, with the heap at its place
 abbrev pub Matches : List LiveState → Answer → Taken → Type 0
 Matches heaps answers.Part what = what ≡ taken.Part
-Matches heaps (answers.Whole place) what = (lent : Heap) × (what ≡ taken.Whole lent) × IsLent heaps place (whole_of lent)
+Matches heaps (answers.Whole place) what =
+    (lent : Heap) × (what ≡ taken.Whole lent) × IsLent heaps place (whole_of lent)
 Matches heaps answers.Stale what = what ≡ taken.Stale
 Matches heaps (answers.Dropped cause) what = what ≡ taken.Dropped cause

@@ -12,7 +12,8 @@ is_refused c = is_none (result_ok (described_in c))
 
 -- the content is a descriptor whose id would be the 65th after these contents
 abbrev pub is_full_after : Plan → List (List ℕ) → List ℕ → Bool
-is_full_after plan before c = passes (λ d. is_full_for (table_ids (readable_descriptors plan before)) d.id) (result_ok (described_in c))
+is_full_after plan before c =
+    passes (λ d. is_full_for (table_ids (readable_descriptors plan before)) d.id) (result_ok (described_in c))
 
 -- how many of these contents, each after those before it, are descriptors whose id would be the 65th
 abbrev pub full_count : Plan → List (List ℕ) → List (List ℕ) → ℕ

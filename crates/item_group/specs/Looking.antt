@@ -24,7 +24,10 @@ number_by es g id = if passes is_unsigned_scalar (entry_of es id) then number_it
 
 -- the samples, where their entry is that of voltages
 abbrev pub samples_by : Plan → List DescribedItem → Group → Option (List ℕ)
-samples_by plan es g = if passes (is_voltages plan) (entry_of es 0x4300) then option_and_then (long_enough (sample_bytes plan)) (addressed_content g 0x4300) else None
+samples_by plan es g =
+    if passes (is_voltages plan) (entry_of es 0x4300)
+    then option_and_then (long_enough (sample_bytes plan)) (addressed_content g 0x4300)
+    else None
 
 -- what the heap says by these entries, whatever list they stand for
 abbrev pub sight_by : Plan → List DescribedItem → Group → Option Sight

@@ -40,7 +40,8 @@ impl Model for Column {
 
     ghost view = { λ s. record { plan = s.plan; antenna = s.antenna; number = s.number; cells = s.row.cells } };
 
-    ghost invariant = { λ s. IsSound (record { plan = s.plan; antenna = s.antenna; number = s.number; cells = s.row.cells }) s.row.width };
+    ghost invariant = { λ s.
+        IsSound (record { plan = s.plan; antenna = s.antenna; number = s.number; cells = s.row.cells }) s.row.width };
 }
 
 impl Column {

@@ -33,14 +33,16 @@ RefusesPut held c = (held.plan ≢ c.plan) ⊎ (held.number ≢ c.number) ⊎ (h
 pub record Puts (old : View) (hand : Hand) (new : View) (spare : Hand) : Type 0 where
   pub accepts : AcceptsPut (held_of old) hand.column
   pub slot : new ≡ record old { columns = slice_set old.columns hand.column.antenna hand }
-  pub there : (d : Hand) → spare ≡ record { column = (get_or old.columns hand.column.antenna d).column; is_closed = false }
+  pub there : (d : Hand)
+      → spare ≡ record { column = (get_or old.columns hand.column.antenna d).column; is_closed = false }
   pub is_spare : spare.is_closed ≡ false
   pub same_plan : spare.column.plan ≡ hand.column.plan
 
 -- by the answer of a put
 abbrev pub PutGives : View → Hand → Put → View → Hand → Type 0
 PutGives old hand Placed new spare = Puts old hand new spare
-PutGives old hand (Waits held) new spare = (held ≡ held_of old) × RefusesPut held hand.column × (new ≡ old) × (spare ≡ hand)
+PutGives old hand (Waits held) new spare =
+    (held ≡ held_of old) × RefusesPut held hand.column × (new ≡ old) × (spare ≡ hand)
 
 -- a slot that shows this can be taken
 pub record AcceptsTake (held : Held) (plan : Plan) : Type 0 where
@@ -61,7 +63,8 @@ pub record Takes (old : View) (work : WorkView) (new : View) (now : WorkView) : 
 -- by the answer of a take
 abbrev pub TakeGives : View → WorkView → Took → View → WorkView → Type 0
 TakeGives old work took.Taken new now = Takes old work new now
-TakeGives old work (took.Not held) new now = (held ≡ held_of old) × RefusesTake held work.plan × (new ≡ old) × (now ≡ work)
+TakeGives old work (took.Not held) new now =
+    (held ≡ held_of old) × RefusesTake held work.plan × (new ≡ old) × (now ≡ work)
 
 -- a slot that shows this awaits the value of the plan and number
 pub record AcceptsStore (held : Held) (plan : Plan) (number : ℕ) : Type 0 where
@@ -92,7 +95,8 @@ pub record Stores (old : View) (work : WorkView) (new : View) (now : WorkView) :
 -- by the answer of a store
 abbrev pub StoreGives : View → WorkView → Stored → View → WorkView → Type 0
 StoreGives old work stored.Stored new now = Stores old work new now
-StoreGives old work (stored.Old held) new now = (held ≡ held_of old) × RefusesStore held work.plan work.number × (new ≡ old) × Frees work now
+StoreGives old work (stored.Old held) new now =
+    (held ≡ held_of old) × RefusesStore held work.plan work.number × (new ≡ old) × Frees work now
 
 -- a slot that shows this has the value of the plan and number
 pub record AcceptsSend (held : Held) (plan : Plan) (number : ℕ) : Type 0 where
@@ -114,11 +118,16 @@ pub record Gives (old : View) (number : ℕ) (outgoing : OutgoingView) (new : Vi
 -- by the answer of a send
 abbrev pub SendGives : View → ℕ → OutgoingView → Gave → View → OutgoingView → Type 0
 SendGives old number outgoing gave.Given new now = Gives old number outgoing new now
-SendGives old number outgoing (gave.Not held) new now = (held ≡ held_of old) × RefusesSend held outgoing.plan number × (new ≡ old) × (now ≡ outgoing)
+SendGives old number outgoing (gave.Not held) new now =
+    (held ≡ held_of old) × RefusesSend held outgoing.plan number × (new ≡ old) × (now ≡ outgoing)
 
 -- the value of all timestamps of the columns is computed
 pub record Computes (value : Plan → List (List (Option (List ℕ))) → ℕ → ℕ → List ℤ) (old new : WorkView) : Type 0 where
   pub works : new ≡ record old {
     stage = Computed;
-    out = record { plan = old.plan; sums = value old.plan (cells_of old.columns) 0 old.plan.heaps; added = old.plan.heaps };
+    out = record {
+      plan = old.plan;
+      sums = value old.plan (cells_of old.columns) 0 old.plan.heaps;
+      added = old.plan.heaps;
+    };
   }

@@ -33,19 +33,23 @@ pub record AtSlot (old new : RingView) (place : ℕ) (change : View → View →
 
 -- a put, in the slot of the column's number
 abbrev pub RingPuts : RingView → Hand → Put → RingView → Hand → Type 0
-RingPuts old hand answer new spare = AtSlot old new (hand.column.number % old.plan.slots) (λ before after. PutGives before hand answer after spare)
+RingPuts old hand answer new spare =
+    AtSlot old new (hand.column.number % old.plan.slots) (λ before after. PutGives before hand answer after spare)
 
 -- a take, in this slot
 abbrev pub RingTakes : RingView → ℕ → WorkView → Took → RingView → WorkView → Type 0
-RingTakes old slot work answer new now = AtSlot old new (slot % old.plan.slots) (λ before after. TakeGives before work answer after now)
+RingTakes old slot work answer new now =
+    AtSlot old new (slot % old.plan.slots) (λ before after. TakeGives before work answer after now)
 
 -- a store, in the slot of the work's number
 abbrev pub RingStores : RingView → WorkView → Stored → RingView → WorkView → Type 0
-RingStores old work answer new now = AtSlot old new (work.number % old.plan.slots) (λ before after. StoreGives before work answer after now)
+RingStores old work answer new now =
+    AtSlot old new (work.number % old.plan.slots) (λ before after. StoreGives before work answer after now)
 
 -- a send, in the slot of the number
 abbrev pub RingSends : RingView → ℕ → OutgoingView → Gave → RingView → OutgoingView → Type 0
-RingSends old number outgoing answer new now = AtSlot old new (number % old.plan.slots) (λ before after. SendGives before number outgoing answer after now)
+RingSends old number outgoing answer new now =
+    AtSlot old new (number % old.plan.slots) (λ before after. SendGives before number outgoing answer after now)
 
 -- a ring as it is made: slot s is filled for number s
 abbrev pub empty_ring : Plan → ℕ → RingView

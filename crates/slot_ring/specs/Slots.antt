@@ -51,8 +51,8 @@ pub record WorkView : Type 0 where
   pub columns : List Hand
   pub out : Sums
 
--- what a work's type keeps: all its columns are closed, for its number, unless it is free; its Out is made for its plan;
--- and a computed value is of all timestamps, and the one that the types mean
+-- what a work's type keeps: all its columns are closed, for its number, unless it is free; its Out is made for its
+-- plan; and a computed value is of all timestamps, and the one that the types mean
 pub record IsWork (m : Means) (size : ℕ) (w : WorkView) : Type 0 where
   pub fits : Fits w.plan
   pub held : AreHeld w.plan w.number w.columns
@@ -79,11 +79,25 @@ pub record IsOutgoing (m : Means) (size : ℕ) (o : OutgoingView) : Type 0 where
 
 -- a slot that is filled for this number, and holds nothing
 abbrev pub empty_slot : Plan → ℕ → ℕ → View
-empty_slot plan size number = record { plan = plan; number = number; kind = Filling; columns = replicate plan.antennas (spare_hand plan); out = no_sums plan size }
+empty_slot plan size number =
+    record {
+      plan = plan;
+      number = number;
+      kind = Filling;
+      columns = replicate plan.antennas (spare_hand plan);
+      out = no_sums plan size;
+    }
 
 -- a free work
 abbrev pub free_work : Plan → ℕ → WorkView
-free_work plan size = record { plan = plan; number = 0; stage = Free; columns = replicate plan.antennas (spare_hand plan); out = no_sums plan size }
+free_work plan size =
+    record {
+      plan = plan;
+      number = 0;
+      stage = Free;
+      columns = replicate plan.antennas (spare_hand plan);
+      out = no_sums plan size;
+    }
 
 -- nothing to send
 abbrev pub no_outgoing : Plan → ℕ → OutgoingView

@@ -27,7 +27,12 @@ impl<O: Observation, B: Backend> Model for Outgoing<O, B> {
 
     ghost Value = { OutgoingView };
 
-    ghost view = { λ s. record { plan = s.plan; number = s.number; is_computed = s.is_computed; out = B.Out.shown s.out } };
+    ghost view = { λ s. record {
+      plan = s.plan;
+      number = s.number;
+      is_computed = s.is_computed;
+      out = B.Out.shown s.out;
+    } };
 
     ghost invariant = { λ s. IsOutgoing
         (record { names = O.names; plan = O.plan; list = O.list; shows = B.shows; fixed = B.fixed })

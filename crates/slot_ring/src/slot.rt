@@ -36,12 +36,24 @@ impl<O: Observation, B: Backend> Model for Slot<O, B> {
 
     ghost Value = { View };
 
-    ghost view = { λ s. record { plan = s.plan; number = s.number; kind = s.kind; columns = s.columns.items; out = B.Out.shown s.out } };
+    ghost view = { λ s. record {
+      plan = s.plan;
+      number = s.number;
+      kind = s.kind;
+      columns = s.columns.items;
+      out = B.Out.shown s.out;
+    } };
 
     ghost invariant = { λ s. IsSlot
         (record { names = O.names; plan = O.plan; list = O.list; shows = B.shows; fixed = B.fixed })
         (B.size s.plan)
-        (record { plan = s.plan; number = s.number; kind = s.kind; columns = s.columns.items; out = B.Out.shown s.out }) };
+        (record {
+          plan = s.plan;
+          number = s.number;
+          kind = s.kind;
+          columns = s.columns.items;
+          out = B.Out.shown s.out;
+        }) };
 }
 
 impl<O: Observation, B: Backend> Slot<O, B> {

@@ -40,12 +40,24 @@ impl<O: Observation, B: Backend> Model for Work<O, B> {
 
     ghost Value = { WorkView };
 
-    ghost view = { λ s. record { plan = s.plan; number = s.number; stage = s.stage; columns = s.columns.items; out = B.Out.shown s.out } };
+    ghost view = { λ s. record {
+      plan = s.plan;
+      number = s.number;
+      stage = s.stage;
+      columns = s.columns.items;
+      out = B.Out.shown s.out;
+    } };
 
     ghost invariant = { λ s. IsWork
         (record { names = O.names; plan = O.plan; list = O.list; shows = B.shows; fixed = B.fixed })
         (B.size s.plan)
-        (record { plan = s.plan; number = s.number; stage = s.stage; columns = s.columns.items; out = B.Out.shown s.out }) };
+        (record {
+          plan = s.plan;
+          number = s.number;
+          stage = s.stage;
+          columns = s.columns.items;
+          out = B.Out.shown s.out;
+        }) };
 }
 
 impl<O: Observation, B: Backend> Work<O, B> {

@@ -17,7 +17,8 @@ digits_on : (a b p r : ℕ) → (256 * a + b) * p + r ≡ a * (256 * p) + (b * p
 digits_on a b p r = grind arith
 
 -- the first bytes read behind a number
-big_behind : (n a : ℕ) (bytes : List ℕ) → n ≤ length bytes → fold (λ k b. 256 * k + b) a (take n bytes) ≡ a * 256 ^ n + big_from 0 n bytes
+big_behind : (n a : ℕ) (bytes : List ℕ) → n ≤ length bytes
+    → fold (λ k b. 256 * k + b) a (take n bytes) ≡ a * 256 ^ n + big_from 0 n bytes
 big_behind zero a bytes h = omega arith
 big_behind (suc n) a [] h = absurd (omega arith)
 big_behind (suc n) a (b ∷ bytes) h =
@@ -28,10 +29,12 @@ big_behind (suc n) a (b ∷ bytes) h =
 
 -- the number in the first bytes
 pub big-take : (n : ℕ) (bytes : List ℕ) → n ≤ length bytes → big (take n bytes) ≡ big_number n bytes
-big-take n bytes h = big_behind n 0 bytes h ∙ (let e : 0 * 256 ^ n + big_from 0 n bytes ≡ big_from 0 n bytes = omega arith in e)
+big-take n bytes h =
+    big_behind n 0 bytes h ∙ (let e : 0 * 256 ^ n + big_from 0 n bytes ≡ big_from 0 n bytes = omega arith in e)
 
 -- the signed number at a place is what is read behind the others
-pub signed_at : (bits place width : ℕ) (bytes behind : List ℕ) (r : ℤ) (signed : Bool) → width ≡ bits / 8 → (place + 1) * (bits / 8) ≤ length bytes → behind ≡ drop (place * width) bytes → signed ≡ true
+pub signed_at : (bits place width : ℕ) (bytes behind : List ℕ) (r : ℤ) (signed : Bool) → width ≡ bits / 8
+    → (place + 1) * (bits / 8) ≤ length bytes → behind ≡ drop (place * width) bytes → signed ≡ true
     → r ≡ twos_complement width (big_number width behind) → r ≡ number_at bytes bits signed place
 signed_at bits place width bytes behind r signed is room cut said read =
     let same : (place + 1) * width ≤ length bytes = subst (λ w. (place + 1) * w ≤ length bytes) (sym is) room in
@@ -60,21 +63,30 @@ by_width P a b c d bits h =
     ]
 
 -- the lowest bytes of a number of eight
-lowest_bytes : (x bits : ℕ) → IsTrue (is_width bits) → take (8 - (8 - bits / 8)) (drop (8 - bits / 8) (bytes_high_first 8 x)) ≡ bytes_high_first (bits / 8) x
-lowest_bytes x = by_width (λ bits. take (8 - (8 - bits / 8)) (drop (8 - bits / 8) (bytes_high_first 8 x)) ≡ bytes_high_first (bits / 8) x) refl refl refl refl
+lowest_bytes : (x bits : ℕ) → IsTrue (is_width bits)
+    → take (8 - (8 - bits / 8)) (drop (8 - bits / 8) (bytes_high_first 8 x)) ≡ bytes_high_first (bits / 8) x
+lowest_bytes x = by_width
+    (λ bits. take (8 - (8 - bits / 8)) (drop (8 - bits / 8) (bytes_high_first 8 x)) ≡ bytes_high_first (bits / 8) x)
+    refl refl refl refl
 
 -- the lowest bytes of a value, copied to its place
-pub put_bytes : (bits place width : ℕ) (bytes eight now : List ℕ) (value given : ℤ) → IsTrue (is_width bits) → width ≡ bits / 8 → given ≡ value → eight ≡ bytes_high_first 8 (cast_unsigned w64 given)
-    → now ≡ take (8 - (8 - width)) (drop (8 - width) eight) → put_mid (place * width) (place * width + width - place * width) bytes now ≡ with_number bytes bits place value
+pub put_bytes : (bits place width : ℕ) (bytes eight now : List ℕ) (value given : ℤ) → IsTrue (is_width bits)
+    → width ≡ bits / 8 → given ≡ value → eight ≡ bytes_high_first 8 (cast_unsigned w64 given)
+    → now ≡ take (8 - (8 - width)) (drop (8 - width) eight)
+    → put_mid (place * width) (place * width + width - place * width) bytes now ≡ with_number bytes bits place value
 put_bytes bits place width bytes eight now value given known is same whole copied =
     let x = cast_unsigned w64 value in
     let some : now ≡ bytes_high_first width x
-    = copied ∙ ap (λ xs. take (8 - (8 - width)) (drop (8 - width) xs)) (whole ∙ ap (λ z. bytes_high_first 8 (cast_unsigned w64 z)) same)
-    ∙ subst (λ w. take (8 - (8 - w)) (drop (8 - w) (bytes_high_first 8 x)) ≡ bytes_high_first w x) (sym is) (lowest_bytes x bits known) in
+    = copied ∙ ap (λ xs. take (8 - (8 - width)) (drop (8 - width) xs))
+    (whole ∙ ap (λ z. bytes_high_first 8 (cast_unsigned w64 z)) same)
+    ∙ subst (λ w. take (8 - (8 - w)) (drop (8 - w) (bytes_high_first 8 x)) ≡ bytes_high_first w x) (sym is)
+    (lowest_bytes x bits known) in
     let end : place * width + (place * width + width - place * width) ≡ place * width + width = omega arith in
-    let behind : drop (place * width + width - place * width) (drop (place * width) bytes) ≡ drop (place * width + width) bytes
+    let behind : drop (place * width + width - place * width) (drop (place * width) bytes)
+    ≡ drop (place * width + width) bytes
     = drop-drop (place * width + width - place * width) (place * width) bytes ∙ ap (λ n. drop n bytes) end in
-    ap (λ xs. take (place * width) bytes ++ (xs ++ drop (place * width + width - place * width) (drop (place * width) bytes))) some
+    ap (λ xs. take (place * width) bytes
+    ++ (xs ++ drop (place * width + width - place * width) (drop (place * width) bytes))) some
     ∙ ap (λ xs. take (place * width) bytes ++ (bytes_high_first width x ++ xs)) behind
     ∙ ap (λ w. take (place * w) bytes ++ (bytes_high_first w x ++ drop (place * w + w) bytes)) is
 
@@ -87,22 +99,30 @@ big-bytes n x =
     ∙ big_from-bytes n x []
 
 -- the bytes of the number that was written at a place
-written_number : (width place x : ℕ) (bytes : List ℕ) → place * width ≤ length bytes → number_bytes width place (take (place * width) bytes ++ (bytes_high_first width x ++ drop (place * width + width) bytes)) ≡ bytes_high_first width x
+written_number : (width place x : ℕ) (bytes : List ℕ) → place * width ≤ length bytes
+    → number_bytes width place
+    (take (place * width) bytes ++ (bytes_high_first width x ++ drop (place * width + width) bytes))
+    ≡ bytes_high_first width x
 written_number width place x bytes room =
-    ap (take width) (drop_at (take (place * width) bytes) (bytes_high_first width x ++ drop (place * width + width) bytes) (place * width) (length-take-le (place * width) bytes room))
+    ap (take width) (drop_at (take (place * width) bytes)
+    (bytes_high_first width x ++ drop (place * width + width) bytes) (place * width)
+    (length-take-le (place * width) bytes room))
     ∙ take_at (bytes_high_first width x) (drop (place * width + width) bytes) width (length-bytes_high_first width x)
 
 abbrev SignedBack : ℕ → Type 0
-SignedBack bits = (value : ℤ) → neg_ℤ (pos (2 ^ (bits - 1))) ≤ℤ value → value <ℤ pos (2 ^ (bits - 1)) → twos_complement (bits / 8) (cast_unsigned w64 value % 256 ^ (bits / 8)) ≡ value
+SignedBack bits = (value : ℤ) → neg_ℤ (pos (2 ^ (bits - 1))) ≤ℤ value → value <ℤ pos (2 ^ (bits - 1))
+    → twos_complement (bits / 8) (cast_unsigned w64 value % 256 ^ (bits / 8)) ≡ value
 
 -- a number below half the range stands for itself
 stands : (half n x : ℕ) (other : ℤ) → x ≡ n → n < half → (if nat_lt x half then pos x else other) ≡ pos n
 stands half n x other same low = cond-true (nat_lt x half) (pos x) other (lt-ltb x half (omega arith)) ∙ ap pos same
 
 -- a number from half the range on stands for a negative one
-stands_below : (half whole n x : ℕ) → x + suc n ≡ whole → half ≤ x → (if nat_lt x half then pos x else pos x -ℤ pos whole) ≡ negsuc n
+stands_below : (half whole n x : ℕ) → x + suc n ≡ whole → half ≤ x
+    → (if nat_lt x half then pos x else pos x -ℤ pos whole) ≡ negsuc n
 stands_below half whole n x sum high =
-    cond-false (nat_lt x half) (pos x) (pos x -ℤ pos whole) (le-ltb x half high) ∙ (let e : pos x -ℤ pos whole ≡ negsuc n = omega (arith, ints) in e)
+    cond-false (nat_lt x half) (pos x) (pos x -ℤ pos whole) (le-ltb x half high) ∙
+    (let e : pos x -ℤ pos whole ≡ negsuc n = omega (arith, ints) in e)
 
 signed_8 : SignedBack 8
 signed_8 (pos n) low high =
@@ -140,7 +160,8 @@ signed_back : (bits : ℕ) → IsTrue (is_width bits) → SignedBack bits
 signed_back = by_width SignedBack signed_8 signed_16 signed_32 signed_64
 
 abbrev UnsignedBack : ℕ → Type 0
-UnsignedBack bits = (value : ℤ) → pos 0 ≤ℤ value → value <ℤ pos (2 ^ bits) → pos (cast_unsigned w64 value % 256 ^ (bits / 8)) ≡ value
+UnsignedBack bits = (value : ℤ) → pos 0 ≤ℤ value → value <ℤ pos (2 ^ bits)
+    → pos (cast_unsigned w64 value % 256 ^ (bits / 8)) ≡ value
 
 unsigned_8 : UnsignedBack 8
 unsigned_8 (pos n) low high =
@@ -170,18 +191,25 @@ unsigned_back : (bits : ℕ) → IsTrue (is_width bits) → UnsignedBack bits
 unsigned_back = by_width UnsignedBack unsigned_8 unsigned_16 unsigned_32 unsigned_64
 
 -- the bytes of a number that was written, as a number
-written_big : (bits place : ℕ) (bytes : List ℕ) (value : ℤ) → (place + 1) * (bits / 8) ≤ length bytes → big (number_bytes (bits / 8) place (with_number bytes bits place value)) ≡ cast_unsigned w64 value % 256 ^ (bits / 8)
+written_big : (bits place : ℕ) (bytes : List ℕ) (value : ℤ) → (place + 1) * (bits / 8) ≤ length bytes
+    → big (number_bytes (bits / 8) place (with_number bytes bits place value))
+    ≡ cast_unsigned w64 value % 256 ^ (bits / 8)
 written_big bits place bytes value room =
-    ap big (written_number (bits / 8) place (cast_unsigned w64 value) bytes (omega arith)) ∙ big-bytes (bits / 8) (cast_unsigned w64 value)
+    ap big (written_number (bits / 8) place (cast_unsigned w64 value) bytes (omega arith)) ∙ big-bytes (bits / 8)
+    (cast_unsigned w64 value)
 
 -- what was written is read back as a signed number
-pub signed_reads_back : (bits place : ℕ) (bytes now : List ℕ) (value : ℤ) → IsTrue (is_width bits) → (place + 1) * (bits / 8) ≤ length bytes → now ≡ with_number bytes bits place value
+pub signed_reads_back : (bits place : ℕ) (bytes now : List ℕ) (value : ℤ) → IsTrue (is_width bits)
+    → (place + 1) * (bits / 8) ≤ length bytes → now ≡ with_number bytes bits place value
     → neg_ℤ (pos (2 ^ (bits - 1))) ≤ℤ value → value <ℤ pos (2 ^ (bits - 1)) → number_at now bits true place ≡ value
 signed_reads_back bits place bytes now value known room written low high =
-    ap (λ xs. number_at xs bits true place) written ∙ ap (twos_complement (bits / 8)) (written_big bits place bytes value room) ∙ signed_back bits known value low high
+    ap (λ xs. number_at xs bits true place) written ∙ ap (twos_complement (bits / 8))
+    (written_big bits place bytes value room) ∙ signed_back bits known value low high
 
 -- what was written is read back as an unsigned number
-pub unsigned_reads_back : (bits place : ℕ) (bytes now : List ℕ) (value : ℤ) → IsTrue (is_width bits) → (place + 1) * (bits / 8) ≤ length bytes → now ≡ with_number bytes bits place value
+pub unsigned_reads_back : (bits place : ℕ) (bytes now : List ℕ) (value : ℤ) → IsTrue (is_width bits)
+    → (place + 1) * (bits / 8) ≤ length bytes → now ≡ with_number bytes bits place value
     → value <ℤ pos (2 ^ bits) → pos 0 ≤ℤ value → number_at now bits false place ≡ value
 unsigned_reads_back bits place bytes now value known room written high low =
-    ap (λ xs. number_at xs bits false place) written ∙ ap pos (written_big bits place bytes value room) ∙ unsigned_back bits known value low high
+    ap (λ xs. number_at xs bits false place) written ∙ ap pos (written_big bits place bytes value room) ∙ unsigned_back
+    bits known value low high

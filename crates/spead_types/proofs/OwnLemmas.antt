@@ -31,11 +31,13 @@ record IsFirst (id from : ℕ) (ps : List Pointer) (placed : ℕ × Pointer) : T
   pub none : list_any (has_id id) front ≡ false
   pub hit : (placed.1.id == id) ≡ true
 
-found_by : (b : Bool) (id from : ℕ) (p : Pointer) (ps : List Pointer) (placed : ℕ × Pointer) → (p.id == id) ≡ b → (if b then Some (from, p) else first_of id (from + 1) ps) ≡ Some placed
+found_by : (b : Bool) (id from : ℕ) (p : Pointer) (ps : List Pointer) (placed : ℕ × Pointer) → (p.id == id) ≡ b
+    → (if b then Some (from, p) else first_of id (from + 1) ps) ≡ Some placed
     → (first_of id (from + 1) ps ≡ Some placed → IsFirst id (from + 1) ps placed) → IsFirst id from (p ∷ ps) placed
 found_by true id from p ps placed is was later =
     let same : (from, p) ≡ placed = cc in
-    subst (λ x. IsFirst id from (p ∷ ps) x) same (record { front = []; back = ps; whole = refl; count = omega arith; none = refl; hit = is })
+    subst (λ x. IsFirst id from (p ∷ ps) x) same
+    (record { front = []; back = ps; whole = refl; count = omega arith; none = refl; hit = is })
 found_by false id from p ps placed is was later =
     let rest = later was in
     let count = rest.count in
@@ -48,27 +50,33 @@ found_by false id from p ps placed is was later =
       hit = rest.hit;
     }
 
-found : (id from : ℕ) (ps : List Pointer) (placed : ℕ × Pointer) → first_of id from ps ≡ Some placed → IsFirst id from ps placed
+found : (id from : ℕ) (ps : List Pointer) (placed : ℕ × Pointer) → first_of id from ps ≡ Some placed
+    → IsFirst id from ps placed
 found id from [] placed was = absurd cc
 found id from (p ∷ ps) placed was = found_by (p.id == id) id from p ps placed refl was (found id (from + 1) ps placed)
 
 -- the first pointer with the id is found behind those that have it not
-first_at : (id from : ℕ) (front back : List Pointer) (p : Pointer) → list_any (has_id id) front ≡ false → (p.id == id) ≡ true → first_of id from (front ++ p ∷ back) ≡ Some (from + length front, p)
+first_at : (id from : ℕ) (front back : List Pointer) (p : Pointer) → list_any (has_id id) front ≡ false
+    → (p.id == id) ≡ true → first_of id from (front ++ p ∷ back) ≡ Some (from + length front, p)
 first_at id from [] back p none hit =
-    cond-true (p.id == id) (Some (from, p)) (first_of id (from + 1) back) hit ∙ ap (λ k. Some (k, p)) (let e : from ≡ from + 0 = omega arith in e)
+    cond-true (p.id == id) (Some (from, p)) (first_of id (from + 1) back) hit ∙ ap (λ k. Some (k, p))
+    (let e : from ≡ from + 0 = omega arith in e)
 first_at id from (q ∷ front) back p none hit =
     let parts = or_parts (q.id == id) (list_any (has_id id) front) none in
     cond-false (q.id == id) (Some (from, q)) (first_of id (from + 1) (front ++ p ∷ back)) parts.0
     ∙ first_at id (from + 1) front back p parts.1 hit
     ∙ ap (λ k. Some (k, p)) (let e : from + 1 + length front ≡ from + length (q ∷ front) = omega arith in e)
 
-missing_by : (b : Bool) (id from : ℕ) (p : Pointer) (rest : Option (ℕ × Pointer)) (later : Bool) → (if b then Some (from, p) else rest) ≡ None → (rest ≡ None → later ≡ false) → (b || later) ≡ false
+missing_by : (b : Bool) (id from : ℕ) (p : Pointer) (rest : Option (ℕ × Pointer)) (later : Bool)
+    → (if b then Some (from, p) else rest) ≡ None → (rest ≡ None → later ≡ false) → (b || later) ≡ false
 missing_by true id from p rest later was none = absurd cc
 missing_by false id from p rest later was none = none was
 
 missing : (id from : ℕ) (ps : List Pointer) → first_of id from ps ≡ None → list_any (has_id id) ps ≡ false
 missing id from [] was = refl
-missing id from (p ∷ ps) was = missing_by (p.id == id) id from p (first_of id (from + 1) ps) (list_any (has_id id) ps) was (missing id (from + 1) ps)
+missing id from (p ∷ ps) was =
+    missing_by (p.id == id) id from p (first_of id (from + 1) ps) (list_any (has_id id) ps) was
+    (missing id (from + 1) ps)
 
 not_found : (id from : ℕ) (ps : List Pointer) → list_any (has_id id) ps ≡ false → first_of id from ps ≡ None
 not_found id from [] none = refl
@@ -79,17 +87,22 @@ not_found id from (p ∷ ps) none =
 -- ---- the distinct pointers up to the first with an id, and behind it
 
 -- a pointer is not among those that have another id
-not_among : (id : ℕ) (front : List Pointer) (p : Pointer) → list_any (has_id id) front ≡ false → (p.id == id) ≡ true → list_any (are_same p) front ≡ false
+not_among : (id : ℕ) (front : List Pointer) (p : Pointer) → list_any (has_id id) front ≡ false → (p.id == id) ≡ true
+    → list_any (are_same p) front ≡ false
 not_among id [] p none hit = refl
 not_among id (q ∷ front) p none hit =
     let parts = or_parts (q.id == id) (list_any (has_id id) front) none in
     or_from (are_same p q) (list_any (are_same p) front)
-    (false_from_ne_true (are_same p q) (λ same. (let other : (q.id == id) ≡ true = ap (λ (x : Pointer). x.id == id) (sym (same_is p q same)) ∙ hit in absurd cc)))
+    (false_from_ne_true (are_same p q)
+    (λ same. (let other : (q.id == id) ≡ true =
+    ap (λ (x : Pointer). x.id == id) (sym (same_is p q same)) ∙ hit in absurd cc)))
     (not_among id front p parts.1 hit)
 
 -- the distinct pointers of a list with a first pointer of an id
-distinct_at : (id : ℕ) (front back : List Pointer) (p : Pointer) → list_any (has_id id) front ≡ false → (p.id == id) ≡ true
-    → distinct are_same (front ++ p ∷ back) ≡ distinct are_same front ++ p ∷ news (distinct are_same front ++ p ∷ []) back
+distinct_at : (id : ℕ) (front back : List Pointer) (p : Pointer) → list_any (has_id id) front ≡ false
+    → (p.id == id) ≡ true
+    → distinct are_same (front ++ p ∷ back)
+    ≡ distinct are_same front ++ p ∷ news (distinct are_same front ++ p ∷ []) back
 distinct_at id front back p none hit =
     let before = distinct are_same front in
     let new : list_any (are_same p) before ≡ false = any_distinct (are_same p) front ∙ not_among id front p none hit in
@@ -99,21 +112,28 @@ distinct_at id front back p none hit =
     ∙ append_assoc before (p ∷ []) (news (before ++ p ∷ []) back)
 
 -- the same stand among the distinct pointers up to a place as among all up to it
-among_front : (front : List Pointer) (p q : Pointer) → list_any (are_same q) (distinct are_same front ++ p ∷ []) ≡ list_any (are_same q) (front ++ p ∷ [])
+among_front : (front : List Pointer) (p q : Pointer)
+    → list_any (are_same q) (distinct are_same front ++ p ∷ []) ≡ list_any (are_same q) (front ++ p ∷ [])
 among_front front p q =
-    list_any-append (are_same q) (distinct are_same front) (p ∷ []) ∙ ap (λ b. b || list_any (are_same q) (p ∷ [])) (any_distinct (are_same q) front) ∙ sym (list_any-append (are_same q) front (p ∷ []))
+    list_any-append (are_same q) (distinct are_same front) (p ∷ []) ∙ ap (λ b. b || list_any (are_same q) (p ∷ []))
+    (any_distinct (are_same q) front) ∙ sym (list_any-append (are_same q) front (p ∷ []))
 
 past : (front back : List Pointer) (p : Pointer) → drop (length front + 1) (front ++ p ∷ back) ≡ back
 past front back p =
-    ap (drop (length front + 1)) (sym (append_assoc front (p ∷ []) back)) ∙ drop_at (front ++ p ∷ []) back (length front + 1) (length_push front p)
+    ap (drop (length front + 1)) (sym (append_assoc front (p ∷ []) back)) ∙ drop_at (front ++ p ∷ []) back
+    (length front + 1) (length_push front p)
 
 upto : (front back : List Pointer) (p : Pointer) → take (length front + 1) (front ++ p ∷ back) ≡ front ++ p ∷ []
 upto front back p =
-    ap (take (length front + 1)) (sym (append_assoc front (p ∷ []) back)) ∙ take_at (front ++ p ∷ []) back (length front + 1) (length_push front p)
+    ap (take (length front + 1)) (sym (append_assoc front (p ∷ []) back)) ∙ take_at (front ++ p ∷ []) back
+    (length front + 1) (length_push front p)
 
 -- a later distinct pointer is addressed at an offset where a new pointer is
-shared_same : (id offset : ℕ) (front back : List Pointer) (p : Pointer) → list_any (has_id id) front ≡ false → (p.id == id) ≡ true
-    → list_any (is_addressed_at offset) (drop (length (distinct are_same front) + 1) (distinct are_same (front ++ p ∷ back))) ≡ is_shared (front ++ p ∷ back) (length front) offset
+shared_same : (id offset : ℕ) (front back : List Pointer) (p : Pointer) → list_any (has_id id) front ≡ false
+    → (p.id == id) ≡ true
+    → list_any (is_addressed_at offset)
+    (drop (length (distinct are_same front) + 1) (distinct are_same (front ++ p ∷ back)))
+    ≡ is_shared (front ++ p ∷ back) (length front) offset
 shared_same id offset front back p none hit =
     let before = distinct are_same front in
     let ps = front ++ p ∷ back in
@@ -121,7 +141,8 @@ shared_same id offset front back p none hit =
     ∙ ap (list_any (is_addressed_at offset)) (past before (news (before ++ p ∷ []) back) p)
     ∙ any_news (is_addressed_at offset) (before ++ p ∷ []) back
     ∙ (λ i. list_any (λ q. is_addressed_at offset q && not (among_front front p q i)) back)
-    ∙ ap (λ xs. list_any (λ q. is_addressed_at offset q && not (list_any (are_same q) xs)) back) (sym (upto front back p))
+    ∙ ap (λ xs. list_any (λ q. is_addressed_at offset q && not (list_any (are_same q) xs)) back)
+    (sym (upto front back p))
     ∙ ap (list_any (is_new_at ps (length front) offset)) (sym (past front back p))
 
 -- ---- contents
@@ -130,17 +151,22 @@ abbrev group_of : List Pointer → List ℕ → Group
 group_of pointers payload = record { pointers = pointers; payload = payload }
 
 -- the content of the first pointer with an id
-content_same : (id offset : ℕ) (front back : List Pointer) (p : Pointer) (payload : List ℕ) → list_any (has_id id) front ≡ false → (p.id == id) ≡ true
-    → content_at (group_of (distinct are_same (front ++ p ∷ back)) payload) (length (distinct are_same front)) offset ≡ all_content_at (group_of (front ++ p ∷ back) payload) (length front) offset
+content_same : (id offset : ℕ) (front back : List Pointer) (p : Pointer) (payload : List ℕ)
+    → list_any (has_id id) front ≡ false → (p.id == id) ≡ true
+    → content_at (group_of (distinct are_same (front ++ p ∷ back)) payload) (length (distinct are_same front)) offset
+    ≡ all_content_at (group_of (front ++ p ∷ back) payload) (length front) offset
 content_same id offset front back p payload none hit =
-    ap₂ (λ shared end. if nat_lt (length payload) offset then None else (if shared then Some [] else Some (slice_range payload offset end)))
+    ap₂ (λ shared end. if nat_lt (length payload) offset then None
+    else (if shared then Some [] else Some (slice_range payload offset end)))
     (shared_same id offset front back p none hit)
     (least_distinct offset (length payload) (front ++ p ∷ back))
 
 -- ---- items
 
-by_item_at : {B : Type 0} (o : Option (ℕ × Pointer)) (id : ℕ) (ps : List Pointer) (f g : ℕ × Pointer → Option B) → first_of id 0 ps ≡ o
-    → ((front back : List Pointer) (p : Pointer) → ps ≡ front ++ p ∷ back → list_any (has_id id) front ≡ false → (p.id == id) ≡ true → f (length (distinct are_same front), p) ≡ g (length front, p))
+by_item_at : {B : Type 0} (o : Option (ℕ × Pointer)) (id : ℕ) (ps : List Pointer) (f g : ℕ × Pointer → Option B)
+    → first_of id 0 ps ≡ o
+    → ((front back : List Pointer) (p : Pointer) → ps ≡ front ++ p ∷ back → list_any (has_id id) front ≡ false
+    → (p.id == id) ≡ true → f (length (distinct are_same front), p) ≡ g (length front, p))
     → option_and_then f (first_of id 0 (distinct are_same ps)) ≡ option_and_then g o
 by_item_at None id ps f g was each =
     ap (option_and_then f) (not_found id 0 (distinct are_same ps) (any_distinct (has_id id) ps ∙ missing id 0 ps was))
@@ -152,7 +178,9 @@ by_item_at (Some placed) id ps f g was each =
     let here : (length first.front, p) ≡ placed = ap (λ (k : ℕ). (k, p)) (omega arith) in
     ap (λ xs. option_and_then f (first_of id 0 (distinct are_same xs))) first.whole
     ∙ ap (λ xs. option_and_then f (first_of id 0 xs)) (distinct_at id first.front first.back p first.none first.hit)
-    ∙ ap (option_and_then f) (first_at id 0 before (news (before ++ p ∷ []) first.back) p (any_distinct (has_id id) first.front ∙ first.none) first.hit)
+    ∙ ap (option_and_then f)
+    (first_at id 0 before (news (before ++ p ∷ []) first.back) p
+    (any_distinct (has_id id) first.front ∙ first.none) first.hit)
     ∙ ap (λ (k : ℕ). f (k, p)) (let e : 0 + length before ≡ length before = omega arith in e)
     ∙ each first.front first.back p first.whole first.none first.hit
     ∙ ap g here
@@ -161,8 +189,10 @@ by_item_at (Some placed) id ps f g was each =
 pub number_same : (p : Parts) (id : ℕ) → number_item (own_group p) id ≡ all_number (all_group p) id
 number_same p id =
     by_item_at (item id (all_group p)) id p.pointers
-    (λ placed. if placed.1.immediate then Some placed.1.value else option_and_then short_number (content (own_group p) placed))
-    (λ placed. if placed.1.immediate then Some placed.1.value else option_and_then short_number (all_content_at (all_group p) placed.0 placed.1.value))
+    (λ placed. if placed.1.immediate then Some placed.1.value
+    else option_and_then short_number (content (own_group p) placed))
+    (λ placed. if placed.1.immediate then Some placed.1.value
+    else option_and_then short_number (all_content_at (all_group p) placed.0 placed.1.value))
     refl
     (λ front back q whole none hit.
     ap (λ c. if q.immediate then Some q.value else option_and_then short_number c)

@@ -36,9 +36,12 @@ all_content_at g place offset =
 
 -- the content of an id's item, where that is addressed and has content
 abbrev pub all_addressed : Group → ℕ → Option (List ℕ)
-all_addressed g id = option_and_then (λ placed. if placed.1.immediate then None else all_content_at g placed.0 placed.1.value) (item id g)
+all_addressed g id =
+    option_and_then (λ placed. if placed.1.immediate then None else all_content_at g placed.0 placed.1.value)
+    (item id g)
 
 -- the number of an id: an immediate item's value, or an addressed item's content of one to eight bytes
 abbrev pub all_number : Group → ℕ → Option ℕ
 all_number g id =
-    option_and_then (λ placed. if placed.1.immediate then Some placed.1.value else option_and_then short_number (all_content_at g placed.0 placed.1.value)) (item id g)
+    option_and_then (λ placed. if placed.1.immediate then Some placed.1.value
+    else option_and_then short_number (all_content_at g placed.0 placed.1.value)) (item id g)

@@ -14,7 +14,8 @@ pub record IsFilled {X : Type 0} (room : ℕ) (unused : X) (all : List X) (count
   pub rest : filled room unused (take count all) ≡ all
 
 -- as many elements count as are taken
-pub length-counted : {X : Type 0} (room : ℕ) (unused : X) (all : List X) (count : ℕ) → IsFilled room unused all count → length (take count all) ≡ count
+pub length-counted : {X : Type 0} (room : ℕ) (unused : X) (all : List X) (count : ℕ) → IsFilled room unused all count
+    → length (take count all) ≡ count
 length-counted room unused all count h = length-take-le count all (subst (λ n. count ≤ n) (sym h.long) h.within)
 
 -- the type entry that stands where there is none

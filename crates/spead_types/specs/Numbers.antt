@@ -24,4 +24,5 @@ number_at bytes bits signed place = value_of signed (bits / 8) (number_bytes (bi
 abbrev pub with_number : List ℕ → ℕ → ℕ → ℤ → List ℕ
 with_number bytes bits place value =
     let width = bits / 8 in
-    take (place * width) bytes ++ (bytes_high_first width (cast_unsigned w64 value) ++ drop (place * width + width) bytes)
+    take (place * width) bytes
+    ++ (bytes_high_first width (cast_unsigned w64 value) ++ drop (place * width + width) bytes)

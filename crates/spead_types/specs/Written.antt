@@ -11,4 +11,5 @@ payload_bytes d = d.name ++ (flat_map type_bytes d.types ++ flat_map dimension_b
 -- the id, and where name, types and shape stand in the payload
 abbrev pub own_pointers : DescribedItem → List Pointer
 own_pointers d =
-    immediate 0x14 d.id ∷ addressed 0x10 0 ∷ addressed 0x13 (length d.name) ∷ addressed 0x12 (length d.name + 3 * length d.types) ∷ []
+    immediate 0x14 d.id ∷ addressed 0x10 0 ∷ addressed 0x13 (length d.name)
+    ∷ addressed 0x12 (length d.name + 3 * length d.types) ∷ []

@@ -25,13 +25,16 @@ pub record IsReadOf (bytes : List ℕ) (r : Result Parts Refusal) : Type 0 where
   pub front : front_refusal bytes ≡ None
   pub reading : IsReading (pointers_in bytes) (payload_in bytes) r
 
-pub read_of : (bytes rest payload : List ℕ) (count : ℕ) (ps : List Pointer) (r : Result Parts Refusal) → front_refusal bytes ≡ None → count ≡ pointer_count bytes → rest ≡ drop 8 bytes → payload ≡ drop (8 * count) rest
+pub read_of : (bytes rest payload : List ℕ) (count : ℕ) (ps : List Pointer) (r : Result Parts Refusal)
+    → front_refusal bytes ≡ None → count ≡ pointer_count bytes → rest ≡ drop 8 bytes → payload ≡ drop (8 * count) rest
     → ps ≡ map pointer_of (words_in count rest) → IsReading ps payload r → IsReadOf bytes r
 read_of bytes rest payload count ps r front counted behind cut words reading =
     let pointers : ps ≡ pointers_in bytes
-    = words ∙ ap (λ n. map pointer_of (words_in n rest)) counted ∙ ap (λ xs. map pointer_of (words_in (pointer_count bytes) xs)) behind in
+    = words ∙ ap (λ n. map pointer_of (words_in n rest)) counted ∙ ap
+    (λ xs. map pointer_of (words_in (pointer_count bytes) xs)) behind in
     let left : payload ≡ payload_in bytes
-    = cut ∙ ap (λ n. drop (8 * n) rest) counted ∙ ap (λ xs. drop (8 * pointer_count bytes) xs) behind ∙ drop-drop (8 * pointer_count bytes) 8 bytes in
+    = cut ∙ ap (λ n. drop (8 * n) rest) counted ∙ ap (λ xs. drop (8 * pointer_count bytes) xs) behind ∙ drop-drop
+    (8 * pointer_count bytes) 8 bytes in
     record {
       front = front;
       reading = subst (λ ws. IsReading ws (payload_in bytes) r) pointers (subst (λ xs. IsReading ps xs r) left reading);
@@ -47,7 +50,9 @@ only bytes (Ok q) p h s = ap (λ (x : Parts). Ok x) (h.reading.1 ∙ again bytes
 only bytes (Err e) p h s = absurd (late _ _ e h.front h.reading (not_refused bytes p s))
 
 -- there are as many item pointers as the words that were cut
-pub few_words : (count : ℕ) (rest : List ℕ) (ps : List Pointer) → ps ≡ map pointer_of (words_in count rest) → count < 2 ^ 16 → length ps < 2 ^ 16
+pub few_words : (count : ℕ) (rest : List ℕ) (ps : List Pointer) → ps ≡ map pointer_of (words_in count rest)
+    → count < 2 ^ 16 → length ps < 2 ^ 16
 few_words count rest ps words few =
-    let cut = ap (λ (xs : List Pointer). length xs) words ∙ length-map (words_in count rest) pointer_of ∙ length-words_in count rest in
+    let cut = ap (λ (xs : List Pointer). length xs) words ∙ length-map (words_in count rest) pointer_of ∙
+    length-words_in count rest in
     omega arith

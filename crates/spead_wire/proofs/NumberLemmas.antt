@@ -23,7 +23,9 @@ one_at_least zero e = absurd cc
 one_at_least (suc n) e = omega arith
 
 -- a number of one to eight bytes
-pub short_number-value : (bytes : List ℕ) (value : ℕ) {empty : Bool} → empty ≡ (length bytes == 0) → empty ≡ false → length bytes ≤ 8 → value ≡ big bytes → Some value ≡ short_number bytes
+pub short_number-value : (bytes : List ℕ) (value : ℕ) {empty : Bool} → empty ≡ (length bytes == 0) → empty ≡ false
+    → length bytes ≤ 8 → value ≡ big bytes → Some value ≡ short_number bytes
 short_number-value bytes value {empty} is not_empty few e =
     let some : 1 ≤ length bytes = one_at_least (length bytes) (sym is ∙ not_empty) in
-    sym (cond-true (nat_le 1 (length bytes) && nat_le (length bytes) 8) (Some (big bytes)) None (and_from _ _ (le-leb _ _ some) (le-leb _ _ few)) ∙ ap Some (sym e))
+    sym (cond-true (nat_le 1 (length bytes) && nat_le (length bytes) 8) (Some (big bytes)) None
+    (and_from _ _ (le-leb _ _ some) (le-leb _ _ few)) ∙ ap Some (sym e))

@@ -65,10 +65,12 @@ AreBytes-take n bytes h i =
     ]
 
 -- the pointers read from bytes have the widths of their fields
-pub words-widths : (n : ℕ) (bytes : List ℕ) → 8 * n ≤ length bytes → AreBytes bytes → All HasPointerWidths (map pointer_of (words_in n bytes))
+pub words-widths : (n : ℕ) (bytes : List ℕ) → 8 * n ≤ length bytes → AreBytes bytes
+    → All HasPointerWidths (map pointer_of (words_in n bytes))
 words-widths zero bytes long small = All-nil HasPointerWidths
 words-widths (suc n) bytes long small =
-    let first = HasPointerWidths-word (take 8 bytes) (omega (arith, length-take 8 bytes)) (AreBytes-take 8 bytes small) in
+    let first = HasPointerWidths-word (take 8 bytes) (omega (arith, length-take 8 bytes))
+    (AreBytes-take 8 bytes small) in
     let rest = words-widths n (drop 8 bytes) (omega (arith, length-drop 8 bytes)) (AreBytes-drop 8 bytes small) in
     All-cons HasPointerWidths (pointer_of (take 8 bytes)) (map pointer_of (words_in n (drop 8 bytes))) first rest
 
@@ -79,14 +81,17 @@ chosen-small : (b : Bool) (before : Option ℕ) (v : ℕ) → IsSmall before →
 chosen-small true before v h k = k
 chosen-small false before v h k = h
 
-later-small : (id : ℕ) (before : Option ℕ) (p : Pointer) → IsSmall before → p.value < 2 ^ 48 → IsSmall (later_value id before p)
+later-small : (id : ℕ) (before : Option ℕ) (p : Pointer) → IsSmall before → p.value < 2 ^ 48
+    → IsSmall (later_value id before p)
 later-small id before p h k = chosen-small (p.immediate && (p.id == id)) before p.value h k
 
-fold-small : (id : ℕ) (before : Option ℕ) (ps : List Pointer) → IsSmall before → All HasPointerWidths ps → IsSmall (fold (later_value id) before ps)
+fold-small : (id : ℕ) (before : Option ℕ) (ps : List Pointer) → IsSmall before → All HasPointerWidths ps
+    → IsSmall (fold (later_value id) before ps)
 fold-small id before [] h k = h
 fold-small id before (p ∷ ps) h k =
     let first = All-head HasPointerWidths p ps k in
-    fold-small id (later_value id before p) ps (later-small id before p h first.value) (All-tail HasPointerWidths p ps k)
+    fold-small id (later_value id before p) ps (later-small id before p h first.value)
+    (All-tail HasPointerWidths p ps k)
 
 -- the values of pointers within their widths are within them
 pub last_value-small : (id : ℕ) (ps : List Pointer) → All HasPointerWidths ps → IsSmall (last_value id ps)
@@ -97,14 +102,16 @@ said None e r v h k = absurd cc
 said (Some x) e r v h k = cc
 
 -- a value that the special pointers say is within its width
-pub said-small : (id : ℕ) (ps : List Pointer) (o : Option ℕ) (e : Refusal) (r : Result ℕ Refusal) (v : ℕ) → All HasPointerWidths ps → o ≡ last_value id ps → r ≡ ok_or o e → r ≡ Ok v → v < 2 ^ 48
+pub said-small : (id : ℕ) (ps : List Pointer) (o : Option ℕ) (e : Refusal) (r : Result ℕ Refusal) (v : ℕ)
+    → All HasPointerWidths ps → o ≡ last_value id ps → r ≡ ok_or o e → r ≡ Ok v → v < 2 ^ 48
 said-small id ps o e r v widths is from was =
     subst IsSmall (sym is ∙ said o e r v from was) (last_value-small id ps widths)
 
 own_pointer : (p : Pointer) → HasPointerWidths p → is_own p ≡ true → IsHeapPointer p
 own_pointer p h k = record { own = grind (arith, nat_tests); id = h.id; value = h.value }
 
-own_case : (b : Bool) (p : Pointer) (ps : List Pointer) → is_own p ≡ b → HasPointerWidths p → All IsHeapPointer (filter is_own ps) → All IsHeapPointer (cond b (p ∷ filter is_own ps) (filter is_own ps))
+own_case : (b : Bool) (p : Pointer) (ps : List Pointer) → is_own p ≡ b → HasPointerWidths p
+    → All IsHeapPointer (filter is_own ps) → All IsHeapPointer (cond b (p ∷ filter is_own ps) (filter is_own ps))
 own_case true p ps e h k = All-cons IsHeapPointer p (filter is_own ps) (own_pointer p h e) k
 own_case false p ps e h k = k
 
@@ -114,7 +121,8 @@ All-own [] h = All-nil IsHeapPointer
 All-own (p ∷ ps) h =
     own_case (is_own p) p ps refl (All-head HasPointerWidths p ps h) (All-own ps (All-tail HasPointerWidths p ps h))
 
-few_case : (b : Bool) (p : Pointer) (ps : List Pointer) → length (filter is_own ps) ≤ length ps → length (cond b (p ∷ filter is_own ps) (filter is_own ps)) ≤ length (p ∷ ps)
+few_case : (b : Bool) (p : Pointer) (ps : List Pointer) → length (filter is_own ps) ≤ length ps
+    → length (cond b (p ∷ filter is_own ps) (filter is_own ps)) ≤ length (p ∷ ps)
 few_case true p ps h = omega arith
 few_case false p ps h = omega arith
 

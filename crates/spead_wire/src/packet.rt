@@ -25,9 +25,22 @@ impl<'a> Model for Packet<'a> {
 
     ghost Value = { Parts };
 
-    ghost view = { λ s. record { counter = s.counter; size = s.size; offset = s.offset; pointers = filter is_own s.words; payload = s.payload.now } };
+    ghost view = { λ s. record {
+      counter = s.counter;
+      size = s.size;
+      offset = s.offset;
+      pointers = filter is_own s.words;
+      payload = s.payload.now;
+    } };
 
-    ghost invariant = { λ s. HasWidths (record { counter = s.counter; size = s.size; offset = s.offset; pointers = filter is_own s.words; payload = s.payload.now }) };
+    ghost invariant = { λ s.
+        HasWidths (record {
+          counter = s.counter;
+          size = s.size;
+          offset = s.offset;
+          pointers = filter is_own s.words;
+          payload = s.payload.now;
+        }) };
 }
 
 impl<'a> Packet<'a> {

@@ -21,23 +21,32 @@ set_twice (z ∷ zs) zero x y = refl
 set_twice (z ∷ zs) (suc k) x y = ap (λ ws. z ∷ ws) (set_twice zs k x y)
 
 with_columns : OpenState → List Cells → Cells → OpenState
-with_columns o cs ahead = record { plan = o.plan; antenna = o.antenna; given = o.given + 1; columns = cs; ahead = ahead }
+with_columns o cs ahead =
+    record { plan = o.plan; antenna = o.antenna; given = o.given + 1; columns = cs; ahead = ahead }
 
 given_twice : (o : OpenState) (place next : ℕ) (x : Cells) (b : Bool)
     → ◌≡◌ {A = OpenState}
     (record (cond b
-    (record o { columns = slice_set (slice_set o.columns place x) place o.ahead; ahead = empty_column o.plan o.antenna (next + 1) })
-    (record o { columns = slice_set (slice_set o.columns place x) place (empty_column o.plan o.antenna next) })) { given = o.given + 1 })
+    (record o {
+      columns = slice_set (slice_set o.columns place x) place o.ahead;
+      ahead = empty_column o.plan o.antenna (next + 1);
+    })
+    (record o { columns = slice_set (slice_set o.columns place x) place (empty_column o.plan o.antenna next) }))
+    { given = o.given + 1 })
     (record (cond b
     (record o { columns = slice_set o.columns place o.ahead; ahead = empty_column o.plan o.antenna (next + 1) })
     (record o { columns = slice_set o.columns place (empty_column o.plan o.antenna next) })) { given = o.given + 1 })
 unfolding with_columns
-given_twice o place next x true = ap (λ cs. with_columns o cs (empty_column o.plan o.antenna (next + 1))) (set_twice o.columns place x o.ahead)
-given_twice o place next x false = ap (λ cs. with_columns o cs o.ahead) (set_twice o.columns place x (empty_column o.plan o.antenna next))
+given_twice o place next x true =
+    ap (λ cs. with_columns o cs (empty_column o.plan o.antenna (next + 1))) (set_twice o.columns place x o.ahead)
+given_twice o place next x false =
+    ap (λ cs. with_columns o cs o.ahead) (set_twice o.columns place x (empty_column o.plan o.antenna next))
 
 -- what lay at the place before does not count
-pub given_over : (o : OpenState) (x : Cells) → after_given (record o { columns = slice_set o.columns (o.given % o.plan.lag) x }) ≡ after_given o
-given_over o x = given_twice o (o.given % o.plan.lag) (o.given + o.plan.lag) x (eqb o.ahead.number (o.given + o.plan.lag))
+pub given_over : (o : OpenState) (x : Cells)
+    → after_given (record o { columns = slice_set o.columns (o.given % o.plan.lag) x }) ≡ after_given o
+given_over o x = given_twice o (o.given % o.plan.lag) (o.given + o.plan.lag) x
+    (eqb o.ahead.number (o.given + o.plan.lag))
 
 -- so many empty columns are there
 pub record ColumnsTo (plan : Plan) (antenna : ℕ) (cs : List Cells) (len room n : ℕ) : Type 0 where
@@ -45,35 +54,50 @@ pub record ColumnsTo (plan : Plan) (antenna : ℕ) (cs : List Cells) (len room n
   pub counted : len ≡ n
   pub fits_in : plan.lag ≤ room
 
-pub columns_more : (plan : Plan) (antenna : ℕ) (cs after : List Cells) (c : Cells) (len later room now n : ℕ) → ColumnsTo plan antenna cs len room n → c ≡ empty_column plan antenna n
+pub columns_more : (plan : Plan) (antenna : ℕ) (cs after : List Cells) (c : Cells) (len later room now n : ℕ)
+    → ColumnsTo plan antenna cs len room n → c ≡ empty_column plan antenna n
     → after ≡ cs ++ c ∷ [] → later ≡ len + 1 → now ≡ room → ColumnsTo plan antenna after later now (n + 1)
 columns_more plan antenna cs after c len later room now n i ec e el er =
     let f = empty_column plan antenna in
     let next : suc n ≡ n + 1 = omega arith in
     let same : 0 + n ≡ n = omega arith in
     record {
-      is = e ∙ ap₂ (λ xs x. xs ++ x ∷ []) i.is (ec ∙ ap f (sym same)) ∙ sym (map-append f (numbers 0 n) ((0 + n) ∷ [])) ∙ ap (map f) (sym (numbers_push 0 n)) ∙ ap (λ k. map f (numbers 0 k)) next;
+      is = e ∙ ap₂ (λ xs x. xs ++ x ∷ []) i.is (ec ∙ ap f (sym same)) ∙ sym (map-append f (numbers 0 n) ((0 + n) ∷ []))
+          ∙ ap (map f) (sym (numbers_push 0 n)) ∙ ap (λ k. map f (numbers 0 k)) next;
       counted = let c = i.counted in omega arith;
       fits_in = let c = i.fits_in in omega arith;
     }
 
-pub new_open : (plan : Plan) (antenna : ℕ) (cs : List Cells) → Fits plan → antenna < plan.antennas → cs ≡ map (empty_column plan antenna) (numbers 0 plan.lag)
-    → IsSoundOpen (record { plan = plan; antenna = antenna; given = 0; columns = cs; ahead = empty_column plan antenna plan.lag })
+pub new_open : (plan : Plan) (antenna : ℕ) (cs : List Cells) → Fits plan → antenna < plan.antennas
+    → cs ≡ map (empty_column plan antenna) (numbers 0 plan.lag)
+    → IsSoundOpen (record {
+      plan = plan;
+      antenna = antenna;
+      given = 0;
+      columns = cs;
+      ahead = empty_column plan antenna plan.lag;
+    })
 new_open plan antenna cs fits low e =
-    let long : length cs ≡ plan.lag = ap length e ∙ length-map (numbers 0 plan.lag) (empty_column plan antenna) ∙ length-numbers 0 plan.lag in
+    let long : length cs ≡ plan.lag =
+    ap length e ∙ length-map (numbers 0 plan.lag) (empty_column plan antenna) ∙ length-numbers 0 plan.lag in
     record {
       fits = fits;
       antenna = low;
       given = omega arith;
       as_many = long;
-      of_plan = λ k d less. ap (λ xs. (get_or xs k d).plan) e ∙ ap (λ (c : Cells). c.plan) (get_or_mapped (empty_column plan antenna) 0 plan.lag k d (omega arith));
+      of_plan = λ k d less.
+          ap (λ xs. (get_or xs k d).plan) e ∙ ap (λ (c : Cells). c.plan)
+          (get_or_mapped (empty_column plan antenna) 0 plan.lag k d (omega arith));
       ahead_plan = refl;
     }
 
-pub new_open_with : (plan : Plan) (antenna : ℕ) (cs : List Cells) (ahead : Cells) → Fits plan → antenna < plan.antennas → cs ≡ map (empty_column plan antenna) (numbers 0 plan.lag)
-    → ahead ≡ empty_column plan antenna plan.lag → IsSoundOpen (record { plan = plan; antenna = antenna; given = 0; columns = cs; ahead = ahead })
+pub new_open_with : (plan : Plan) (antenna : ℕ) (cs : List Cells) (ahead : Cells) → Fits plan → antenna < plan.antennas
+    → cs ≡ map (empty_column plan antenna) (numbers 0 plan.lag)
+    → ahead ≡ empty_column plan antenna plan.lag
+    → IsSoundOpen (record { plan = plan; antenna = antenna; given = 0; columns = cs; ahead = ahead })
 new_open_with plan antenna cs ahead fits low e is =
-    subst (λ a. IsSoundOpen (record { plan = plan; antenna = antenna; given = 0; columns = cs; ahead = a })) (sym is) (new_open plan antenna cs fits low e)
+    subst (λ a. IsSoundOpen (record { plan = plan; antenna = antenna; given = 0; columns = cs; ahead = a })) (sym is)
+    (new_open plan antenna cs fits low e)
 
 -- ---- by the heaps that were judged
 
@@ -94,27 +118,37 @@ open_none plan antenna low = record {
 }
 
 -- a heap that is not used changes no column
-pub open_stay : (o : OpenState) (js : List JudgedHeap) (j : JudgedHeap) → AreOpen o js → ((n t : ℕ) → is_used_at n t j.verdict ≡ false) → AreOpen o (js ++ j ∷ [])
+pub open_stay : (o : OpenState) (js : List JudgedHeap) (j : JudgedHeap) → AreOpen o js
+    → ((n t : ℕ) → is_used_at n t j.verdict ≡ false) → AreOpen o (js ++ j ∷ [])
 open_stay o js j a unused =
     let stays = λ (n t : ℕ). cell_in_stays js j n t (unused n t) in
     record {
       each = λ n d from to. a.each n d from to ∙ sym (column_same o.plan o.antenna js (js ++ j ∷ []) n (stays n));
-      ahead_is = a.ahead_is ∙ sym (column_same o.plan o.antenna js (js ++ j ∷ []) o.ahead.number (stays o.ahead.number));
+      ahead_is = a.ahead_is ∙ sym
+          (column_same o.plan o.antenna js (js ++ j ∷ []) o.ahead.number (stays o.ahead.number));
       past = a.past;
       rest = λ n t far apart. stays n t ∙ a.rest n t far apart;
     }
 
-module _ (o : OpenState) (js : List JudgedHeap) (j : JudgedHeap) (n t : ℕ) (samples : List ℕ) (a : AreOpen o js) (used : j.verdict ≡ Used n t) (own : samples_of j ≡ samples) (free : cell_in js n t ≡ None) (low : t < o.plan.heaps) where
+module _ (o : OpenState) (js : List JudgedHeap) (j : JudgedHeap) (n t : ℕ) (samples : List ℕ) (a : AreOpen o js)
+    (used : j.verdict ≡ Used n t) (own : samples_of j ≡ samples) (free : cell_in js n t ≡ None)
+    (low : t < o.plan.heaps) where
   -- the column of a heap that is used
-  column_now : record (column_by o.plan o.antenna js n) { cells = slice_set (column_by o.plan o.antenna js n).cells t (Some samples) } ≡ column_by o.plan o.antenna (js ++ j ∷ []) n
-  column_now = column_put o.plan o.antenna js (js ++ j ∷ []) n t samples low (filled_here js j n t used free ∙ ap Some own) (λ u apart. same_beside js j n t used u apart)
+  column_now : record (column_by o.plan o.antenna js n)
+      { cells = slice_set (column_by o.plan o.antenna js n).cells t (Some samples) }
+      ≡ column_by o.plan o.antenna (js ++ j ∷ []) n
+  column_now = column_put o.plan o.antenna js (js ++ j ∷ []) n t samples low
+      (filled_here js j n t used free ∙ ap Some own) (λ u apart. same_beside js j n t used u apart)
 
   others_now : (m : ℕ) → m ≢ n → column_by o.plan o.antenna js m ≡ column_by o.plan o.antenna (js ++ j ∷ []) m
-  others_now m apart = sym (column_same o.plan o.antenna js (js ++ j ∷ []) m (λ u. same_elsewhere js j n t used m u apart))
+  others_now m apart =
+      sym (column_same o.plan o.antenna js (js ++ j ∷ []) m (λ u. same_elsewhere js j n t used m u apart))
 
   -- a heap is used in an open column
-  pub open_put : length o.columns ≡ o.plan.lag → 1 ≤ o.plan.lag → o.given ≤ n → n < o.given + o.plan.lag → (after : Cells)
-      → after ≡ record (column_by o.plan o.antenna js n) { cells = slice_set (column_by o.plan o.antenna js n).cells t (Some samples) }
+  pub open_put : length o.columns ≡ o.plan.lag → 1 ≤ o.plan.lag → o.given ≤ n → n < o.given + o.plan.lag
+      → (after : Cells)
+      → after ≡ record (column_by o.plan o.antenna js n)
+      { cells = slice_set (column_by o.plan o.antenna js n).cells t (Some samples) }
       → AreOpen (record o { columns = slice_set o.columns (n % o.plan.lag) after }) (js ++ j ∷ [])
   open_put long some from to after is = record {
     each = λ m d lm um. elim (cases_eq m n) [
@@ -123,7 +157,8 @@ module _ (o : OpenState) (js : List JudgedHeap) (j : JudgedHeap) (n t : ℕ) (sa
           ∙ get_or-set_same o.columns (n % o.plan.lag) after d (omega (arith, long, some))
           ∙ is ∙ column_now ∙ ap (column_by o.plan o.antenna (js ++ j ∷ [])) (sym same)
       | inr apart ↦
-          get_or-set_other o.columns (n % o.plan.lag) (m % o.plan.lag) after d (λ e. apart (same_place o.given o.plan.lag m n lm um from to e))
+          get_or-set_other o.columns (n % o.plan.lag) (m % o.plan.lag) after d
+          (λ e. apart (same_place o.given o.plan.lag m n lm um from to e))
           ∙ a.each m d lm um ∙ others_now m apart
     ];
     ahead_is = a.ahead_is ∙ others_now o.ahead.number (let p = a.past in λ e. omega arith);
@@ -132,8 +167,10 @@ module _ (o : OpenState) (js : List JudgedHeap) (j : JudgedHeap) (n t : ℕ) (sa
   }
 
   -- a heap is used further ahead than any before
-  pub open_ahead : o.given + o.plan.lag ≤ n → ((m u : ℕ) → o.given + o.plan.lag ≤ m → cell_in js m u ≡ None) → (after : Cells)
-      → after ≡ record (empty_column o.plan o.antenna n) { cells = slice_set (empty_column o.plan o.antenna n).cells t (Some samples) }
+  pub open_ahead : o.given + o.plan.lag ≤ n → ((m u : ℕ) → o.given + o.plan.lag ≤ m → cell_in js m u ≡ None)
+      → (after : Cells)
+      → after ≡ record (empty_column o.plan o.antenna n)
+      { cells = slice_set (empty_column o.plan o.antenna n).cells t (Some samples) }
       → AreOpen (record o { ahead = after }) (js ++ j ∷ [])
   open_ahead far none after is =
       let empty = column_none o.plan o.antenna js n (λ u. none n u far) in
@@ -148,33 +185,46 @@ module _ (o : OpenState) (js : List JudgedHeap) (j : JudgedHeap) (n t : ℕ) (sa
       }
 
 -- the next column was given
-module _ (o : OpenState) (js : List JudgedHeap) (a : AreOpen o js) (long : length o.columns ≡ o.plan.lag) (some : 1 ≤ o.plan.lag) where
+module _ (o : OpenState) (js : List JudgedHeap) (a : AreOpen o js) (long : length o.columns ≡ o.plan.lag)
+    (some : 1 ≤ o.plan.lag) where
   next_place : (o.given + o.plan.lag) % o.plan.lag ≡ o.given % o.plan.lag
   next_place = add-mod_right o.given o.plan.lag
 
-  each_next : (after : Cells) → after ≡ column_by o.plan o.antenna js (o.given + o.plan.lag) → (m : ℕ) (d : Cells) → o.given + 1 ≤ m → m < o.given + 1 + o.plan.lag
+  each_next : (after : Cells) → after ≡ column_by o.plan o.antenna js (o.given + o.plan.lag) → (m : ℕ) (d : Cells)
+      → o.given + 1 ≤ m → m < o.given + 1 + o.plan.lag
       → get_or (slice_set o.columns (o.given % o.plan.lag) after) (m % o.plan.lag) d ≡ column_by o.plan o.antenna js m
   each_next after is m d lm um = elim (cases_eq m (o.given + o.plan.lag)) [
     | inl same ↦
-        ap (λ k. get_or (slice_set o.columns (o.given % o.plan.lag) after) k d) (ap (λ k. k % o.plan.lag) same ∙ next_place)
+        ap (λ k. get_or (slice_set o.columns (o.given % o.plan.lag) after) k d)
+        (ap (λ k. k % o.plan.lag) same ∙ next_place)
         ∙ get_or-set_same o.columns (o.given % o.plan.lag) after d (omega (arith, long, some))
         ∙ is ∙ ap (column_by o.plan o.antenna js) (sym same)
     | inr apart ↦
         let within : m < o.given + o.plan.lag = omega arith in
         get_or-set_other o.columns (o.given % o.plan.lag) (m % o.plan.lag) after d
-        (λ e. let same = same_place o.given o.plan.lag m o.given (omega arith) within (omega arith) (omega arith) e in omega arith)
+        (λ e. let same = same_place o.given o.plan.lag m o.given (omega arith) within (omega arith) (omega arith) e
+        in omega arith)
         ∙ a.each m d (omega arith) within
   ]
 
-  given_by : (b : Bool) → (b ≡ true → o.ahead.number ≡ o.given + o.plan.lag) → (b ≡ false → o.ahead.number ≢ o.given + o.plan.lag)
+  given_by : (b : Bool) → (b ≡ true → o.ahead.number ≡ o.given + o.plan.lag)
+      → (b ≡ false → o.ahead.number ≢ o.given + o.plan.lag)
       → AreOpen (record (cond b
-      (record o { columns = slice_set o.columns (o.given % o.plan.lag) o.ahead; ahead = empty_column o.plan o.antenna (o.given + o.plan.lag + 1) })
-      (record o { columns = slice_set o.columns (o.given % o.plan.lag) (empty_column o.plan o.antenna (o.given + o.plan.lag)) })) { given = o.given + 1 }) js
+      (record o {
+        columns = slice_set o.columns (o.given % o.plan.lag) o.ahead;
+        ahead = empty_column o.plan o.antenna (o.given + o.plan.lag + 1);
+      })
+      (record o {
+        columns =
+            slice_set o.columns (o.given % o.plan.lag)
+            (empty_column o.plan o.antenna (o.given + o.plan.lag));
+      })) { given = o.given + 1 }) js
   given_by true is isnt =
       let here = is refl in
       record {
         each = each_next o.ahead (a.ahead_is ∙ ap (column_by o.plan o.antenna js) here);
-        ahead_is = column_none o.plan o.antenna js (o.given + o.plan.lag + 1) (λ t. a.rest (o.given + o.plan.lag + 1) t (omega arith) (λ e. omega arith));
+        ahead_is = column_none o.plan o.antenna js (o.given + o.plan.lag + 1)
+            (λ t. a.rest (o.given + o.plan.lag + 1) t (omega arith) (λ e. omega arith));
         past = omega arith;
         rest = λ m t far apart. a.rest m t (omega arith) (λ e. omega arith);
       }
@@ -183,14 +233,16 @@ module _ (o : OpenState) (js : List JudgedHeap) (a : AreOpen o js) (long : lengt
       let p = a.past in
       record {
         each = each_next (empty_column o.plan o.antenna (o.given + o.plan.lag))
-            (column_none o.plan o.antenna js (o.given + o.plan.lag) (λ t. a.rest (o.given + o.plan.lag) t (omega arith) (λ e. other (sym e))));
+            (column_none o.plan o.antenna js (o.given + o.plan.lag)
+            (λ t. a.rest (o.given + o.plan.lag) t (omega arith) (λ e. other (sym e))));
         ahead_is = a.ahead_is;
         past = omega (arith, p, other);
         rest = λ m t far apart. a.rest m t (omega arith) apart;
       }
 
   pub open_given : AreOpen (after_given o) js
-  open_given = given_by (eqb o.ahead.number (o.given + o.plan.lag)) (eqb-true o.ahead.number (o.given + o.plan.lag)) (λ e same. false≢true (sym e ∙ eq-eqb o.ahead.number (o.given + o.plan.lag) same))
+  open_given = given_by (eqb o.ahead.number (o.given + o.plan.lag)) (eqb-true o.ahead.number (o.given + o.plan.lag))
+      (λ e same. false≢true (sym e ∙ eq-eqb o.ahead.number (o.given + o.plan.lag) same))
 
   -- and it was the one of its number
   pub given_is : (d : Cells) → get_or o.columns (o.given % o.plan.lag) d ≡ column_by o.plan o.antenna js o.given

@@ -23,23 +23,30 @@ due_below given floor h = below (ltb given floor) refl h
     below true is h = ltb-true given floor is
     below false is h = absurd (false≢true h)
 
-pub below_floor : (f : FeedState) (l : List (List ℕ)) → StandsFor f l → is_some (due_of f) ≡ true → f.columns.given < floor f.columns.plan f.columns.antenna l (is_some f.report.ended)
-below_floor f l s due = let low = due_below f.columns.given (floor_by f.columns.plan f.marks) due in let same = floor_is f l s in omega (arith, low, same)
+pub below_floor : (f : FeedState) (l : List (List ℕ)) → StandsFor f l → is_some (due_of f) ≡ true
+    → f.columns.given < floor f.columns.plan f.columns.antenna l (is_some f.report.ended)
+below_floor f l s due =
+    let low = due_below f.columns.given (floor_by f.columns.plan f.marks) due in let same =
+    floor_is f l s in omega (arith, low, same)
 
 -- the column that is due is the list's
-pub due_column : (f : FeedState) (l : List (List ℕ)) (d : Cells) → StandsFor f l → length f.columns.columns ≡ f.columns.plan.lag → 1 ≤ f.columns.plan.lag
+pub due_column : (f : FeedState) (l : List (List ℕ)) (d : Cells) → StandsFor f l
+    → length f.columns.columns ≡ f.columns.plan.lag → 1 ≤ f.columns.plan.lag
     → next_given f.columns d ≡ column_of f.columns.plan f.columns.antenna l f.columns.given
 due_column f l d s long some =
     let plan = f.columns.plan in
     let antenna = f.columns.antenna in
     given_is f.columns (heaps plan antenna (taken plan l)) s.holds.agrees.are_open long some d
-    ∙ ap (λ cs. record { plan = plan; antenna = antenna; number = f.columns.given; cells = cs }) (column_of_taken plan antenna l f.columns.given)
+    ∙ ap (λ cs. record { plan = plan; antenna = antenna; number = f.columns.given; cells = cs })
+    (column_of_taken plan antenna l f.columns.given)
 
-frame_plan : (o : OpenState) (b : Bool) (x y : OpenState) → x.plan ≡ o.plan → y.plan ≡ o.plan → (cond b x y).plan ≡ o.plan
+frame_plan : (o : OpenState) (b : Bool) (x y : OpenState) → x.plan ≡ o.plan → y.plan ≡ o.plan
+    → (cond b x y).plan ≡ o.plan
 frame_plan o true x y h k = h
 frame_plan o false x y h k = k
 
-frame_antenna : (o : OpenState) (b : Bool) (x y : OpenState) → x.antenna ≡ o.antenna → y.antenna ≡ o.antenna → (cond b x y).antenna ≡ o.antenna
+frame_antenna : (o : OpenState) (b : Bool) (x y : OpenState) → x.antenna ≡ o.antenna → y.antenna ≡ o.antenna
+    → (cond b x y).antenna ≡ o.antenna
 frame_antenna o true x y h k = h
 frame_antenna o false x y h k = k
 
@@ -50,7 +57,8 @@ pub given_antenna : (o : OpenState) → (after_given o).antenna ≡ o.antenna
 given_antenna o = frame_antenna o (eqb o.ahead.number (o.given + o.plan.lag)) _ _ refl refl
 
 -- the feed after a column was given
-pub stands_given : (f : FeedState) (l : List (List ℕ)) → StandsFor f l → is_some (due_of f) ≡ true → length f.columns.columns ≡ f.columns.plan.lag → 1 ≤ f.columns.plan.lag
+pub stands_given : (f : FeedState) (l : List (List ℕ)) → StandsFor f l → is_some (due_of f) ≡ true
+    → length f.columns.columns ≡ f.columns.plan.lag → 1 ≤ f.columns.plan.lag
     → StandsFor (record f { columns = after_given f.columns }) l
 stands_given f l s due long some =
     let plan = f.columns.plan in
@@ -67,11 +75,15 @@ stands_given f l s due long some =
     } in
     let holds : Holds f.window f.table f.marks o k = record {
       window_of = subst (λ q. IsWindowOf q f.window (heard q k)) (sym same_plan) s.holds.window_of;
-      described = subst (λ q. IsTableOf q o.antenna f.table k) (sym same_plan) (subst (λ a. IsTableOf plan a f.table k) (sym same_antenna) s.holds.described);
-      agrees = subst (λ q. Agrees f.marks o (heaps q o.antenna k)) (sym same_plan) (subst (λ a. Agrees f.marks o (heaps plan a k)) (sym same_antenna) agrees);
+      described = subst (λ q. IsTableOf q o.antenna f.table k) (sym same_plan)
+          (subst (λ a. IsTableOf plan a f.table k) (sym same_antenna) s.holds.described);
+      agrees = subst (λ q. Agrees f.marks o (heaps q o.antenna k)) (sym same_plan)
+          (subst (λ a. Agrees f.marks o (heaps plan a k)) (sym same_antenna) agrees);
     } in
-    let stands : StandsBy plan antenna (record f { columns = o }) l = record { holds = holds; report_is = s.report_is; ends = s.ends; finished = s.finished; given = next } in
-    subst (λ q. StandsBy q o.antenna (record f { columns = o }) l) (sym same_plan) (subst (λ a. StandsBy plan a (record f { columns = o }) l) (sym same_antenna) stands)
+    let stands : StandsBy plan antenna (record f { columns = o }) l =
+    record { holds = holds; report_is = s.report_is; ends = s.ends; finished = s.finished; given = next } in
+    subst (λ q. StandsBy q o.antenna (record f { columns = o }) l) (sym same_plan)
+    (subst (λ a. StandsBy plan a (record f { columns = o }) l) (sym same_antenna) stands)
 
 -- ---- where the list is named
 
@@ -82,33 +94,46 @@ module _ (list : ℕ → List (List ℕ)) where
     whole = λ said. absurd (false≢true (sym (ap is_said ended) ∙ said));
   }
 
-  pub promise_packet : (f g : FeedState) (b : List ℕ) → IsOfList list f → IsNext (list f.columns.antenna) f.report.taken b → ((l : List (List ℕ)) → StandsFor f l → StandsFor g (l ++ b ∷ []))
-      → g.columns.antenna ≡ f.columns.antenna → g.report.taken ≡ f.report.taken + 1 → is_said g.report.ended ≡ false → IsOfList list g
+  pub promise_packet : (f g : FeedState) (b : List ℕ) → IsOfList list f
+      → IsNext (list f.columns.antenna) f.report.taken b
+      → ((l : List (List ℕ)) → StandsFor f l → StandsFor g (l ++ b ∷ []))
+      → g.columns.antenna ≡ f.columns.antenna → g.report.taken ≡ f.report.taken + 1 → is_said g.report.ended ≡ false
+      → IsOfList list g
   promise_packet f g b p next on same counted own =
       let all = list f.columns.antenna in
-      let more : take (f.report.taken + 1) all ≡ take f.report.taken all ++ b ∷ [] = take_more all f.report.taken b next.within ∙ ap (λ x. take f.report.taken all ++ x ∷ []) (next.is b) in
+      let more : take (f.report.taken + 1) all ≡ take f.report.taken all ++ b ∷ [] =
+      take_more all f.report.taken b next.within ∙ ap (λ x. take f.report.taken all ++ x ∷ []) (next.is b) in
       record {
         stands = subst (λ a. StandsFor g (take g.report.taken (list a))) (sym same)
-            (subst (λ n. StandsFor g (take n all)) (sym counted) (subst (StandsFor g) (sym more) (on (take f.report.taken all) p.stands)));
+            (subst (λ n. StandsFor g (take n all)) (sym counted)
+            (subst (StandsFor g) (sym more) (on (take f.report.taken all) p.stands)));
         whole = λ said. absurd (false≢true (sym own ∙ said));
       }
 
-  pub promise_end : (f g : FeedState) → IsOfList list f → length (list f.columns.antenna) ≤ f.report.taken → ((l : List (List ℕ)) → StandsFor f l → StandsFor g l)
+  pub promise_end : (f g : FeedState) → IsOfList list f → length (list f.columns.antenna) ≤ f.report.taken
+      → ((l : List (List ℕ)) → StandsFor f l → StandsFor g l)
       → g.columns.antenna ≡ f.columns.antenna → g.report.taken ≡ f.report.taken → IsOfList list g
   promise_end f g p last on same counted = record {
-    stands = subst (λ a. StandsFor g (take g.report.taken (list a))) (sym same) (subst (λ n. StandsFor g (take n (list f.columns.antenna))) (sym counted) (on (take f.report.taken (list f.columns.antenna)) p.stands));
+    stands = subst (λ a. StandsFor g (take g.report.taken (list a))) (sym same)
+        (subst (λ n. StandsFor g (take n (list f.columns.antenna))) (sym counted)
+        (on (take f.report.taken (list f.columns.antenna)) p.stands));
     whole = λ said. subst (λ a. length (list a) ≤ g.report.taken) (sym same) (omega (arith, last, counted));
   }
 
-  pub promise_give : (f g : FeedState) → IsOfList list f → ((l : List (List ℕ)) → StandsFor f l → StandsFor g l) → g.columns.antenna ≡ f.columns.antenna → g.report ≡ f.report → IsOfList list g
+  pub promise_give : (f g : FeedState) → IsOfList list f → ((l : List (List ℕ)) → StandsFor f l → StandsFor g l)
+      → g.columns.antenna ≡ f.columns.antenna → g.report ≡ f.report → IsOfList list g
   promise_give f g p on same reported = record {
-    stands = subst (λ a. StandsFor g (take g.report.taken (list a))) (sym same) (subst (λ r. StandsFor g (take r.taken (list f.columns.antenna))) (sym reported) (on (take f.report.taken (list f.columns.antenna)) p.stands));
+    stands = subst (λ a. StandsFor g (take g.report.taken (list a))) (sym same)
+        (subst (λ r. StandsFor g (take r.taken (list f.columns.antenna))) (sym reported)
+        (on (take f.report.taken (list f.columns.antenna)) p.stands));
     whole = λ said. subst (λ a. length (list a) ≤ g.report.taken) (sym same)
-        (subst (λ r. length (list f.columns.antenna) ≤ r.taken) (sym reported) (p.whole (ap (λ r. is_said r.ended) (sym reported) ∙ said)));
+        (subst (λ r. length (list f.columns.antenna) ≤ r.taken) (sym reported)
+        (p.whole (ap (λ r. is_said r.ended) (sym reported) ∙ said)));
   }
 
   -- a column below the floor of the strings so far is the whole list's
-  final : (plan : Plan) (antenna : ℕ) (l rest : List (List ℕ)) (n : ℕ) (ended : Option Ending) → EndsAs ended (ending plan l) → (is_said ended ≡ true → rest ≡ []) → n < floor plan antenna l (is_some ended)
+  final : (plan : Plan) (antenna : ℕ) (l rest : List (List ℕ)) (n : ℕ) (ended : Option Ending)
+      → EndsAs ended (ending plan l) → (is_said ended ≡ true → rest ≡ []) → n < floor plan antenna l (is_some ended)
       → column plan antenna (l ++ rest) n ≡ column plan antenna l n
   final plan antenna l rest n ended ends whole low = elim (cases_Bool (is_some (ending plan l))) [
     | inl own ↦ closed_columns_stay plan antenna l rest n (full own)
@@ -121,12 +146,15 @@ module _ (list : ℕ → List (List ℕ)) where
       all_closed false c m k e h = absurd (false≢true e)
 
       full : is_some (ending plan l) ≡ true → n < floor plan antenna l false
-      full own = all_closed (is_some (ending plan l)) (is_some ended) plan.accumulations (floor_of plan (heaps plan antenna l)) own low
+      full own = all_closed (is_some (ending plan l)) (is_some ended) plan.accumulations
+          (floor_of plan (heaps plan antenna l)) own low
 
       nothing_left : rest ≡ [] → column plan antenna (l ++ rest) n ≡ column plan antenna l n
-      nothing_left none = ap (λ r. column plan antenna (l ++ r) n) none ∙ ap (λ k. column plan antenna k n) (append-nil l)
+      nothing_left none = ap (λ r. column plan antenna (l ++ r) n) none ∙ ap (λ k. column plan antenna k n)
+          (append-nil l)
 
-      by_end : (e own : Option Ending) → is_some own ≡ false → EndsAs e own → (is_said e ≡ true → rest ≡ []) → n < floor plan antenna l (is_some e) → column plan antenna (l ++ rest) n ≡ column plan antenna l n
+      by_end : (e own : Option Ending) → is_some own ≡ false → EndsAs e own → (is_said e ≡ true → rest ≡ [])
+          → n < floor plan antenna l (is_some e) → column plan antenna (l ++ rest) n ≡ column plan antenna l n
       by_end None own none h w below = closed_columns_stay plan antenna l rest n below
       by_end (Some x) (Some own) none h w below = absurd (false≢true (sym none))
       by_end (Some x) None none (inl h) w below = absurd cc
@@ -134,7 +162,8 @@ module _ (list : ℕ → List (List ℕ)) where
       by_end (Some x) None none (inr (inr h)) w below = nothing_left (w (ap is_said h))
 
   -- the column that is due is the whole list's
-  pub told_column : (f : FeedState) (plan : Plan) (d : Cells) → IsOfList list f → is_some (due_of f) ≡ true → f.columns.plan ≡ plan → length f.columns.columns ≡ f.columns.plan.lag → 1 ≤ f.columns.plan.lag
+  pub told_column : (f : FeedState) (plan : Plan) (d : Cells) → IsOfList list f → is_some (due_of f) ≡ true
+      → f.columns.plan ≡ plan → length f.columns.columns ≡ f.columns.plan.lag → 1 ≤ f.columns.plan.lag
       → IsColumnOf plan list (next_given f.columns d)
   told_column f plan d p due same_plan long some =
       let own = f.columns.plan in
@@ -144,7 +173,10 @@ module _ (list : ℕ → List (List ℕ)) where
       let rest = drop f.report.taken all in
       let low = below_floor f l p.stands due in
       let last : column own antenna l f.columns.given ≡ column own antenna all f.columns.given =
-      sym (final own antenna l rest f.columns.given f.report.ended p.stands.ends (λ said. drop_all f.report.taken all (p.whole said)) low)
+      sym (final own antenna l rest f.columns.given f.report.ended p.stands.ends
+      (λ said. drop_all f.report.taken all (p.whole said)) low)
       ∙ ap (λ k. column own antenna k f.columns.given) (take-append-drop f.report.taken all) in
-      let here : IsColumnOf own list (column_of own antenna l f.columns.given) = record { same_plan = refl; same_cells = last } in
-      subst (λ q. IsColumnOf q list (next_given f.columns d)) same_plan (subst (IsColumnOf own list) (sym (due_column f l d p.stands long some)) here)
+      let here : IsColumnOf own list (column_of own antenna l f.columns.given) =
+      record { same_plan = refl; same_cells = last } in
+      subst (λ q. IsColumnOf q list (next_given f.columns d)) same_plan
+      (subst (IsColumnOf own list) (sym (due_column f l d p.stands long some)) here)

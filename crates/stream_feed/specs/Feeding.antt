@@ -29,8 +29,8 @@ pub record FeedState : Type 0 where
   pub columns : OpenState
   pub report : StreamReport
 
--- what a feed keeps: nothing is counted more often than strings are taken, the marks know of the end, and an open stream
--- has room for a string
+-- what a feed keeps: nothing is counted more often than strings are taken, the marks know of the end, and an open
+-- stream has room for a string
 pub record IsSoundFeed (f : FeedState) : Type 0 where
   pub fits : Fits f.columns.plan
   pub few : AreFew f.report
@@ -44,7 +44,8 @@ pub record IsWindowOf (plan : Plan) (window : WindowState) (h : List Parts) : Ty
   pub stands : WindowHolds window h
 
 -- window, table, marks and columns are those of the list
-pub record Holds (window : WindowState) (table : List DescribedItem) (marks : MarksState) (columns : OpenState) (l : List (List ℕ)) : Type 0 where
+pub record Holds (window : WindowState) (table : List DescribedItem) (marks : MarksState) (columns : OpenState)
+    (l : List (List ℕ)) : Type 0 where
   pub window_of : IsWindowOf columns.plan window (heard columns.plan l)
   pub described : IsTableOf columns.plan columns.antenna table l
   pub agrees : Agrees marks columns (heaps columns.plan columns.antenna l)
@@ -62,8 +63,9 @@ is_said (Some endings.Stop) = false
 is_said (Some endings.Limit) = false
 is_said None = false
 
--- the feed stands for the list of an antenna: window, table, marks and open columns are those of the strings that count,
--- the report is the list's, and it ended as the list does, or as it was said. Of its columns those given are below the floor
+-- the feed stands for the list of an antenna: window, table, marks and open columns are those of the strings that
+-- count, the report is the list's, and it ended as the list does, or as
+-- it was said. Of its columns those given are below the floor
 pub record StandsBy (plan : Plan) (antenna : ℕ) (f : FeedState) (l : List (List ℕ)) : Type 0 where
   pub holds : Holds f.window f.table f.marks f.columns (taken plan l)
   pub report_is : counts_of f.report ≡ report plan antenna l
@@ -83,22 +85,26 @@ due_by given floor = if nat_lt given floor then Some given else None
 abbrev pub due_of : FeedState → Option ℕ
 due_of f = due_by f.columns.given (floor_by f.columns.plan f.marks)
 
--- what becomes of a string after these: its verdict, whether it ends the stream, and what the report, window, table, marks
--- and columns are with it
-pub record Hears (plan : Plan) (antenna : ℕ) (window : WindowState) (table : List DescribedItem) (marks : MarksState) (columns : OpenState) (l : List (List ℕ)) (b : List ℕ) (heard : Heard) : Type 0 where
+-- what becomes of a string after these: its verdict, whether it ends the stream, and what the report, window, table,
+-- marks and columns are with it
+pub record Hears (plan : Plan) (antenna : ℕ) (window : WindowState) (table : List DescribedItem) (marks : MarksState)
+    (columns : OpenState) (l : List (List ℕ)) (b : List ℕ) (heard : Heard) : Type 0 where
   pub verdict_is : heard.verdict ≡ packet_verdict plan antenna (l ++ b ∷ [])
   pub stops : heard.stop ≡ has_stopped plan (l ++ b ∷ [])
-  pub report_is : report plan antenna (l ++ b ∷ []) ≡ with_string (report plan antenna l) heard.verdict heard.evicts heard.bad
+  pub report_is : report plan antenna (l ++ b ∷ [])
+      ≡ with_string (report plan antenna l) heard.verdict heard.evicts heard.bad
   pub holds : Holds window table marks columns (l ++ b ∷ [])
 
 -- table, marks and columns are as they were
-pub record AreSameBehind (table : List DescribedItem) (marks : MarksState) (columns : OpenState) (table_now : List DescribedItem) (marks_now : MarksState) (columns_now : OpenState) : Type 0 where
+pub record AreSameBehind (table : List DescribedItem) (marks : MarksState) (columns : OpenState)
+    (table_now : List DescribedItem) (marks_now : MarksState) (columns_now : OpenState) : Type 0 where
   pub same_table : table_now ≡ table
   pub same : AreSame marks columns marks_now columns_now
 
 -- what a verdict keeps: one on a packet that makes no heap whole keeps table, marks and columns, and one on a heap what
 -- it keeps of these
-abbrev pub KeepsHeard : Verdict → List DescribedItem → MarksState → OpenState → List DescribedItem → MarksState → OpenState → Type 0
+abbrev pub KeepsHeard : Verdict → List DescribedItem → MarksState → OpenState → List DescribedItem → MarksState
+    → OpenState → Type 0
 KeepsHeard (verdicts.Refused refusal) t m c tn mn cn = AreSameBehind t m c tn mn cn
 KeepsHeard (verdicts.Dropped cause) t m c tn mn cn = AreSameBehind t m c tn mn cn
 KeepsHeard verdicts.Stale t m c tn mn cn = AreSameBehind t m c tn mn cn

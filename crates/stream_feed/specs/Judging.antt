@@ -14,22 +14,26 @@ pub record Agrees (marks : MarksState) (columns : OpenState) (js : List JudgedHe
   pub are_open : AreOpen columns js
 
 -- the heap has this verdict, and marks and columns are those with it
-pub record Judges (marks : MarksState) (columns : OpenState) (js : List JudgedHeap) (j : JudgedHeap) (verdict : Verdict) : Type 0 where
+pub record Judges (marks : MarksState) (columns : OpenState) (js : List JudgedHeap) (j : JudgedHeap)
+    (verdict : Verdict) : Type 0 where
   pub verdict_is : verdict ≡ j.verdict
   pub agrees : Agrees marks columns (js ++ j ∷ [])
 
 -- marks and columns are as they were
-pub record AreSame (marks : MarksState) (columns : OpenState) (marks_now : MarksState) (columns_now : OpenState) : Type 0 where
+pub record AreSame (marks : MarksState) (columns : OpenState) (marks_now : MarksState)
+    (columns_now : OpenState) : Type 0 where
   pub same_marks : marks_now ≡ marks
   pub same_columns : columns_now ≡ columns
 
 -- the columns are as they were, and the stream goes on as it did
-pub record KeepsColumns (marks : MarksState) (columns : OpenState) (marks_now : MarksState) (columns_now : OpenState) : Type 0 where
+pub record KeepsColumns (marks : MarksState) (columns : OpenState) (marks_now : MarksState)
+    (columns_now : OpenState) : Type 0 where
   pub same_columns : columns_now ≡ columns
   pub same_end : marks_now.finished ≡ marks.finished
 
 -- plan, antenna and the number of given columns are as they were, and the stream goes on as it did
-pub record KeepsFrame (marks : MarksState) (columns : OpenState) (marks_now : MarksState) (columns_now : OpenState) : Type 0 where
+pub record KeepsFrame (marks : MarksState) (columns : OpenState) (marks_now : MarksState)
+    (columns_now : OpenState) : Type 0 where
   pub same_plan : columns_now.plan ≡ columns.plan
   pub same_antenna : columns_now.antenna ≡ columns.antenna
   pub same_given : columns_now.given ≡ columns.given
@@ -48,7 +52,8 @@ verdict_on n t New = verdicts.Used n t
 verdict_on n t Twice = verdicts.Twice
 
 -- the samples are placed, and the marks raised
-pub record PlacesHeap (m : MarksState) (c : OpenState) (n t : ℕ) (samples : List ℕ) (mn : MarksState) (cn : OpenState) (verdict : Verdict) : Type 0 where
+pub record PlacesHeap (m : MarksState) (c : OpenState) (n t : ℕ) (samples : List ℕ) (mn : MarksState) (cn : OpenState)
+    (verdict : Verdict) : Type 0 where
   pub answer : Placed
   pub verdict_is : verdict ≡ verdict_on n t answer
   pub marks : mn ≡ record m { above = max m.above (n + 1) }

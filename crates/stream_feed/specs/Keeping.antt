@@ -11,7 +11,8 @@ use Rattle.heap_window.specs.WindowStates.{WindowState}
 
 -- the string spells a packet that is within the heap limit and opens a heap after these strings
 abbrev pub opens_after : Plan → List (List ℕ) → List ℕ → Bool
-opens_after plan l b = passes (λ p. is_within plan.heap_limit p && is_opening plan.window (placed_in plan l) p) (packet_in b)
+opens_after plan l b =
+    passes (λ p. is_within plan.heap_limit p && is_opening plan.window (placed_in plan l) p) (packet_in b)
 
 -- what a verdict keeps of the window, on a string that opens a heap or does not: Refused and Stale keep it, and so does
 -- Dropped of one that opens none. One that opens a heap is dropped for its pointers alone

@@ -7,7 +7,8 @@ use Rattle.corr_model.specs.Streams.{JudgedHeap, cell_in}
 use Rattle.slot_column.specs.declared.column.Placed.{Placed}
 use Rattle.slot_column.specs.Columns.{Cells, Places, empty_column}
 
--- the open columns: whose they are, how many were given, the columns by their numbers modulo the lag, and one ahead of them
+-- the open columns: whose they are, how many were given, the columns
+-- by their numbers modulo the lag, and one ahead of them
 pub record OpenState : Type 0 where
   pub plan : Plan
   pub antenna : ℕ
@@ -39,7 +40,8 @@ no_columns plan antenna = record {
 }
 
 -- the samples are put into the column at the place of n
-pub record PlacesWithin (old : OpenState) (n t : ℕ) (samples : List ℕ) (answer : Placed) (new : OpenState) : Type 0 where
+pub record PlacesWithin (old : OpenState) (n t : ℕ) (samples : List ℕ) (answer : Placed)
+    (new : OpenState) : Type 0 where
   pub before : Cells
   pub after : Cells
   pub is_before : (d : Cells) → get_or old.columns (n % old.plan.lag) d ≡ before
@@ -65,11 +67,13 @@ after_given o = record (renewed o (o.given % o.plan.lag) (o.given + o.plan.lag))
 
 -- the column of an accumulation by these heaps
 abbrev pub column_by : Plan → ℕ → List JudgedHeap → ℕ → Cells
-column_by plan antenna js n = record { plan = plan; antenna = antenna; number = n; cells = map (cell_in js n) (numbers 0 plan.heaps) }
+column_by plan antenna js n =
+    record { plan = plan; antenna = antenna; number = n; cells = map (cell_in js n) (numbers 0 plan.heaps) }
 
 -- the open columns are those of these heaps, and what is past them is empty
 pub record AreOpen (o : OpenState) (js : List JudgedHeap) : Type 0 where
-  pub each : (n : ℕ) (d : Cells) → o.given ≤ n → n < o.given + o.plan.lag → get_or o.columns (n % o.plan.lag) d ≡ column_by o.plan o.antenna js n
+  pub each : (n : ℕ) (d : Cells) → o.given ≤ n → n < o.given + o.plan.lag
+      → get_or o.columns (n % o.plan.lag) d ≡ column_by o.plan o.antenna js n
   pub ahead_is : o.ahead ≡ column_by o.plan o.antenna js o.ahead.number
   pub past : o.given + o.plan.lag ≤ o.ahead.number
   pub rest : (n t : ℕ) → o.given + o.plan.lag ≤ n → n ≢ o.ahead.number → cell_in js n t ≡ None

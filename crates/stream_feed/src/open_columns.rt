@@ -30,9 +30,22 @@ impl Model for OpenColumns {
 
     ghost Value = { OpenState };
 
-    ghost view = { λ s. record { plan = s.plan; antenna = s.antenna; given = s.given; columns = s.columns.items; ahead = s.ahead } };
+    ghost view = { λ s. record {
+      plan = s.plan;
+      antenna = s.antenna;
+      given = s.given;
+      columns = s.columns.items;
+      ahead = s.ahead;
+    } };
 
-    ghost invariant = { λ s. IsSoundOpen (record { plan = s.plan; antenna = s.antenna; given = s.given; columns = s.columns.items; ahead = s.ahead }) };
+    ghost invariant = { λ s.
+        IsSoundOpen (record {
+          plan = s.plan;
+          antenna = s.antenna;
+          given = s.given;
+          columns = s.columns.items;
+          ahead = s.ahead;
+        }) };
 }
 
 // The column of an antenna and a number without a cell.

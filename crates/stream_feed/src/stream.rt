@@ -41,9 +41,22 @@ impl Model for Stream {
 
     ghost Value = { FeedState };
 
-    ghost view = { λ s. record { window = s.window; table = s.table; marks = s.marks; columns = s.columns; report = s.report } };
+    ghost view = { λ s. record {
+      window = s.window;
+      table = s.table;
+      marks = s.marks;
+      columns = s.columns;
+      report = s.report;
+    } };
 
-    ghost invariant = { λ s. IsSoundFeed (record { window = s.window; table = s.table; marks = s.marks; columns = s.columns; report = s.report }) };
+    ghost invariant = { λ s.
+        IsSoundFeed (record {
+          window = s.window;
+          table = s.table;
+          marks = s.marks;
+          columns = s.columns;
+          report = s.report;
+        }) };
 }
 
 // What becomes of one byte string.

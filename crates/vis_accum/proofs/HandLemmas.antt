@@ -9,12 +9,14 @@ use Rattle.vis_back.specs.Sets.{IsFor, IsFullSet}
 abbrev two_of : Hand → Hand → List Hand
 two_of x y = x ∷ y ∷ []
 
-both_closed : (x y : Hand) → x.is_closed ≡ true → y.is_closed ≡ true → (a : ℕ) (d : Hand) → a < 2 → (get_or (two_of x y) a d).is_closed ≡ true
+both_closed : (x y : Hand) → x.is_closed ≡ true → y.is_closed ≡ true → (a : ℕ) (d : Hand) → a < 2
+    → (get_or (two_of x y) a d).is_closed ≡ true
 both_closed x y h k zero d less = h
 both_closed x y h k (suc zero) d less = k
 both_closed x y h k (suc (suc a)) d less = absurd (omega arith)
 
-both_for : (plan : Plan) (n : ℕ) (x y : Hand) → IsFor plan 0 n x → IsFor plan 1 n y → (a : ℕ) (d : Hand) → a < 2 → IsFor plan a n (get_or (two_of x y) a d)
+both_for : (plan : Plan) (n : ℕ) (x y : Hand) → IsFor plan 0 n x → IsFor plan 1 n y → (a : ℕ) (d : Hand) → a < 2
+    → IsFor plan a n (get_or (two_of x y) a d)
 both_for plan n x y h k zero d less = h
 both_for plan n x y h k (suc zero) d less = k
 both_for plan n x y h k (suc (suc a)) d less = absurd (omega arith)

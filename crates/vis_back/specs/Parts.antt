@@ -34,5 +34,8 @@ parts_of (Merged before other) = parts_of before ++ parts_of other
 -- what a value that was made so shows, by the value of a range of timestamps
 abbrev pub made_so : Plan → ℕ → (ℕ → ℕ → List ℤ) → Making → Sums
 made_so plan size value Cleared = no_sums plan size
-made_so plan size value (Added before part) = with_sums (made_so plan size value before) (value part.from part.to) (part.to - part.from)
-made_so plan size value (Merged before other) = with_sums (made_so plan size value before) (made_so plan size value other).sums (made_so plan size value other).added
+made_so plan size value (Added before part) =
+    with_sums (made_so plan size value before) (value part.from part.to) (part.to - part.from)
+made_so plan size value (Merged before other) =
+    with_sums (made_so plan size value before) (made_so plan size value other).sums
+    (made_so plan size value other).added

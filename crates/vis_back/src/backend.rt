@@ -74,12 +74,14 @@ pub trait Backend: Drop {
         ensures { result ≡ (Self.Out.shown out.now).added };
 
     /// A value has as many sums as an Out.
-    ghost sized: { (b : Self) (p : Plan) (cs : List (List (Option (List ℕ)))) (from to : ℕ) → length (value b p cs from to) ≡ size p };
+    ghost sized: { (b : Self) (p : Plan) (cs : List (List (Option (List ℕ)))) (from to : ℕ)
+        → length (value b p cs from to) ≡ size p };
     /// The value of a range is that of its two parts, added up.
     ghost splits: { (b : Self) (p : Plan) (cs : List (List (Option (List ℕ)))) (from mid to : ℕ) → from ≤ mid → mid ≤ to
         → value b p cs from to ≡ add_sums (value b p cs from mid) (value b p cs mid to) };
     /// The value of no timestamps is nothing.
-    ghost starts: { (b : Self) (p : Plan) (cs : List (List (Option (List ℕ)))) (from : ℕ) → value b p cs from from ≡ zeros (size p) };
+    ghost starts: { (b : Self) (p : Plan) (cs : List (List (Option (List ℕ)))) (from : ℕ)
+        → value b p cs from from ≡ zeros (size p) };
     /// The value rests on the cells of its range alone.
     ghost local: { (b : Self) (p : Plan) (cs ds : List (List (Option (List ℕ)))) (from to : ℕ)
         → in_range from to cs ≡ in_range from to ds

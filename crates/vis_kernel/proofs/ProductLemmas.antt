@@ -16,11 +16,13 @@ pub record SummedProducts (plan : Plan) (x y : List ℕ) (c s : ℕ) (sum : Prod
   pub yx : SummedSpectra plan x y c 1 0 s sum.yx
   pub yy : SummedSpectra plan x y c 1 1 s sum.yy
 
-pub within : (plan : Plan) (x y : List ℕ) (c p q s : ℕ) (v : Value) → SummedSpectra plan x y c p q s v → s ≤ 4096 → IsSmall v (2 ^ 29)
+pub within : (plan : Plan) (x y : List ℕ) (c p q s : ℕ) (v : Value) → SummedSpectra plan x y c p q s v → s ≤ 4096
+    → IsSmall v (2 ^ 29)
 within plan x y c p q s v h few = wider v (s * 32768) (2 ^ 29) (omega arith) h.small
 
 -- the pairs of spectra
-pub first_pairs : (plan : Plan) (x y : List ℕ) (c s : ℕ) (sum : Products) → ArePartsOf sum (s * 2 ^ 15) (first_spectra plan x y c s) → SummedProducts plan x y c s sum
+pub first_pairs : (plan : Plan) (x y : List ℕ) (c s : ℕ) (sum : Products)
+    → ArePartsOf sum (s * 2 ^ 15) (first_spectra plan x y c s) → SummedProducts plan x y c s sum
 first_pairs plan x y c s sum h = record {
   xx = record { value = h.xx; small = h.are_small.xx };
   xy = record { value = h.xy; small = h.are_small.xy };
@@ -29,7 +31,8 @@ first_pairs plan x y c s sum h = record {
 }
 
 -- all spectra
-pub all_spectra : (plan : Plan) (x y : List ℕ) (c s : ℕ) (sum : Products) → SummedProducts plan x y c s sum → s ≡ plan.spectra → ArePartsOf sum (plan.spectra * 2 ^ 15) (λ p q. of_cells plan c p q (Some x) (Some y))
+pub all_spectra : (plan : Plan) (x y : List ℕ) (c s : ℕ) (sum : Products) → SummedProducts plan x y c s sum
+    → s ≡ plan.spectra → ArePartsOf sum (plan.spectra * 2 ^ 15) (λ p q. of_cells plan c p q (Some x) (Some y))
 all_spectra plan x y c s sum h at = record {
   xx = h.xx.value ∙ ap (λ n. total (map (product_at plan x y c 0 0) (numbers 0 n))) at;
   xy = h.xy.value ∙ ap (λ n. total (map (product_at plan x y c 0 1) (numbers 0 n))) at;

@@ -15,7 +15,9 @@ use Rattle.vis_kernel.specs.Sizes.{complex_of, IsUpTo, IsSmall}
 use Rattle.vis_kernel.specs.declared.products.Value.{Value}
 
 -- a complex number of the same parts is the same
-pub of_parts : (a b c d : ℤ) → a ≡ c → b ≡ d → (let x : Complex = record { real = a; imaginary = b } in let y : Complex = record { real = c; imaginary = d } in x ≡ y)
+pub of_parts : (a b c d : ℤ) → a ≡ c → b ≡ d
+    → (let x : Complex = record { real = a; imaginary = b } in let y : Complex =
+    record { real = c; imaginary = d } in x ≡ y)
 of_parts a b c d p q = cc
 
 size_of : (z : ℤ) (n : ℕ) → IsUpTo z n → unsigned_abs z ≤ n
@@ -41,35 +43,48 @@ kept_product a b h k =
     ap (λ u. u *ℤ to_z w32 (of_z w32 b)) (kept a 128 h (lit≤ tt)) ∙ ap (λ v. a *ℤ v) (kept b 128 k (lit≤ tt))
 
 -- the sum of two products of samples
-pub kept_sum : (a b u v : ℤ) → a ≡ u → b ≡ v → IsUpTo a 16384 → IsUpTo b 16384 → to_z w32 (of_z w32 (to_z w32 (of_z w32 a) +ℤ to_z w32 (of_z w32 b))) ≡ u +ℤ v
+pub kept_sum : (a b u v : ℤ) → a ≡ u → b ≡ v → IsUpTo a 16384 → IsUpTo b 16384
+    → to_z w32 (of_z w32 (to_z w32 (of_z w32 a) +ℤ to_z w32 (of_z w32 b))) ≡ u +ℤ v
 kept_sum a b u v e f h k = let l = h.low in let m = h.high in let n = k.low in let o = k.high in omega (arith, ints)
 
 -- the difference of two products of samples
-pub kept_difference : (a b u v : ℤ) → a ≡ u → b ≡ v → IsUpTo a 16384 → IsUpTo b 16384 → to_z w32 (of_z w32 (to_z w32 (of_z w32 a) -ℤ to_z w32 (of_z w32 b))) ≡ u -ℤ v
-kept_difference a b u v e f h k = let l = h.low in let m = h.high in let n = k.low in let o = k.high in omega (arith, ints)
+pub kept_difference : (a b u v : ℤ) → a ≡ u → b ≡ v → IsUpTo a 16384 → IsUpTo b 16384
+    → to_z w32 (of_z w32 (to_z w32 (of_z w32 a) -ℤ to_z w32 (of_z w32 b))) ≡ u -ℤ v
+kept_difference a b u v e f h k =
+    let l = h.low in let m = h.high in let n = k.low in let o = k.high in omega (arith, ints)
 
-pub difference_fits : (a b : ℤ) → IsUpTo a 16384 → IsUpTo b 16384 → SFits w32 (to_z w32 (of_z w32 a) -ℤ to_z w32 (of_z w32 b))
+pub difference_fits : (a b : ℤ) → IsUpTo a 16384 → IsUpTo b 16384
+    → SFits w32 (to_z w32 (of_z w32 a) -ℤ to_z w32 (of_z w32 b))
 difference_fits a b h k = let l = h.low in let m = h.high in let n = k.low in let o = k.high in omega (arith, ints)
 
-pub sum_up_to : (a b : ℤ) → IsUpTo a 16384 → IsUpTo b 16384 → IsUpTo (to_z w32 (of_z w32 (to_z w32 (of_z w32 a) +ℤ to_z w32 (of_z w32 b)))) 32768
-sum_up_to a b h k = let l = h.low in let m = h.high in let n = k.low in let o = k.high in record { low = omega (arith, ints); high = omega (arith, ints) }
+pub sum_up_to : (a b : ℤ) → IsUpTo a 16384 → IsUpTo b 16384
+    → IsUpTo (to_z w32 (of_z w32 (to_z w32 (of_z w32 a) +ℤ to_z w32 (of_z w32 b)))) 32768
+sum_up_to a b h k = let l =
+    h.low in let m = h.high in let n = k.low in let o =
+    k.high in record { low = omega (arith, ints); high = omega (arith, ints) }
 
-pub difference_up_to : (a b : ℤ) → IsUpTo a 16384 → IsUpTo b 16384 → IsUpTo (to_z w32 (of_z w32 (to_z w32 (of_z w32 a) -ℤ to_z w32 (of_z w32 b)))) 32768
-difference_up_to a b h k = let l = h.low in let m = h.high in let n = k.low in let o = k.high in record { low = omega (arith, ints); high = omega (arith, ints) }
+pub difference_up_to : (a b : ℤ) → IsUpTo a 16384 → IsUpTo b 16384
+    → IsUpTo (to_z w32 (of_z w32 (to_z w32 (of_z w32 a) -ℤ to_z w32 (of_z w32 b)))) 32768
+difference_up_to a b h k =
+    let l = h.low in let m = h.high in let n = k.low in let o =
+    k.high in record { low = omega (arith, ints); high = omega (arith, ints) }
 
 -- zero, and a wider bound
 pub zero_up_to : (size : ℕ) → IsUpTo (pos 0) size
 zero_up_to size = record { low = omega (arith, ints); high = omega (arith, ints) }
 
 pub wider_up_to : (z : ℤ) (m n : ℕ) → m ≤ n → IsUpTo z m → IsUpTo z n
-wider_up_to z m n le h = let low = h.low in let high = h.high in record { low = omega (arith, ints); high = omega (arith, ints) }
+wider_up_to z m n le h =
+    let low = h.low in let high = h.high in record { low = omega (arith, ints); high = omega (arith, ints) }
 
 -- one more term
-pub total_push : (f : ℕ → Complex) (s : ℕ) → total (map f (numbers 0 (s + 1))) ≡ plus (total (map f (numbers 0 s))) (f s)
+pub total_push : (f : ℕ → Complex) (s : ℕ)
+    → total (map f (numbers 0 (s + 1))) ≡ plus (total (map f (numbers 0 s))) (f s)
 total_push f s =
     let next : s + 1 ≡ suc s = omega arith in
     let same : 0 + s ≡ s = omega arith in
-    ap (λ n. total (map f (numbers 0 n))) next ∙ ap (λ ks. total (map f ks)) (numbers_push 0 s) ∙ ap (λ k. total (map f (numbers 0 s ++ k ∷ []))) same
+    ap (λ n. total (map f (numbers 0 n))) next ∙ ap (λ ks. total (map f ks)) (numbers_push 0 s) ∙ ap
+    (λ k. total (map f (numbers 0 s ++ k ∷ []))) same
     ∙ ap total (map-append f (numbers 0 s) (s ∷ []))
     ∙ fold_push plus none_yet (map f (numbers 0 s)) (f s)
 
@@ -83,7 +98,8 @@ pub record SummedSpectra (plan : Plan) (x y : List ℕ) (c p q s : ℕ) (sum : V
   pub small : IsSmall sum (s * 32768)
 
 -- a sum of a small value and a product
-pub plus_small : (sum more now : Value) (size step : ℕ) → complex_of now ≡ plus (complex_of sum) (complex_of more) → IsSmall sum size → IsSmall more step → IsSmall now (size + step)
+pub plus_small : (sum more now : Value) (size step : ℕ) → complex_of now ≡ plus (complex_of sum) (complex_of more)
+    → IsSmall sum size → IsSmall more step → IsSmall now (size + step)
 plus_small sum more now size step e h k =
     let real : now.real ≡ sum.real +ℤ more.real = ap (λ z. z.real) e in
     let imaginary : now.imaginary ≡ sum.imaginary +ℤ more.imaginary = ap (λ z. z.imaginary) e in
@@ -117,7 +133,11 @@ summed_more plan x y c p q s sum product now first second before ef es ep small 
     let grown : s * 32768 + 32768 ≡ (s + 1) * 32768 = omega arith in
     record {
       value =
-          en ∙ ap (λ z. plus z (complex_of product)) before.value ∙ ap (λ z. plus (total (map (product_at plan x y c p q) (numbers 0 s))) z) (ep ∙ ap (λ z. times_conjugate z (complex_of second)) ef ∙ ap (λ z. times_conjugate (sample plan x c s p) z) es)
+          en ∙ ap (λ z. plus z (complex_of product)) before.value ∙ ap
+          (λ z. plus (total (map (product_at plan x y c p q) (numbers 0 s))) z)
+          (ep ∙ ap (λ z. times_conjugate z (complex_of second)) ef ∙ ap
+          (λ z. times_conjugate (sample plan x c s p) z) es)
           ∙ sym (total_push (product_at plan x y c p q) s);
-      small = wider now (s * 32768 + 32768) ((s + 1) * 32768) (omega arith) (plus_small sum product now (s * 32768) 32768 en before.small small);
+      small = wider now (s * 32768 + 32768) ((s + 1) * 32768) (omega arith)
+          (plus_small sum product now (s * 32768) 32768 en before.small small);
     }

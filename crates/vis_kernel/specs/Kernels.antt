@@ -22,7 +22,8 @@ cell_values plan x y = flat_map (λ c. four_products (λ p q. of_cells plan c p 
 
 -- the sums of two columns over the timestamps from `from` up to, and not including, `to`, by channel
 abbrev pub baseline_values : Plan → List (Option (List ℕ)) → List (Option (List ℕ)) → ℕ → ℕ → List ℤ
-baseline_values plan x y from to = flat_map (λ c. four_products (λ p q. part_of plan x y c p q from to)) (numbers 0 plan.channels)
+baseline_values plan x y from to =
+    flat_map (λ c. four_products (λ p q. part_of plan x y c p q from to)) (numbers 0 plan.channels)
 
 -- the number of these timestamps at which one of the two cells is none
 abbrev pub missing_in : List (Option (List ℕ)) → List (Option (List ℕ)) → ℕ → ℕ → ℕ

@@ -10,7 +10,9 @@ use Rattle.vis_kernel.specs.declared.lanes.Lanes.{Lanes}
 -- both polarisations of a spectrum and of the next, of each the two parts
 abbrev pub two_spectra : Plan → List ℕ → ℕ → ℕ → List ℤ
 two_spectra plan cell c s =
-    two_parts (sample plan cell c s 0) ++ (two_parts (sample plan cell c s 1) ++ (two_parts (sample plan cell c (s + 1) 0) ++ two_parts (sample plan cell c (s + 1) 1)))
+    two_parts (sample plan cell c s 0)
+    ++ (two_parts (sample plan cell c s 1)
+    ++ (two_parts (sample plan cell c (s + 1) 0) ++ two_parts (sample plan cell c (s + 1) 1)))
 
 -- of each two neighbours the second, and then the first with its sign changed
 abbrev pub turned : List ℤ → List ℤ
@@ -63,11 +65,18 @@ pub record HoldsSums (v : List ℤ) (even odd : ℤ) (size : ℕ) : Type 0 where
 
 -- the product of two polarisations, summed over the first spectra
 abbrev pub first_spectra : Plan → List ℕ → List ℕ → ℕ → ℕ → ℕ → ℕ → Complex
-first_spectra plan x y c s p q = total (map (λ k. times_conjugate (sample plan x c k p) (sample plan y c k q)) (numbers 0 s))
+first_spectra plan x y c s p q =
+    total (map (λ k. times_conjugate (sample plan x c k p) (sample plan y c k q)) (numbers 0 s))
 
 -- the lanes hold the sums of the four products over so many pairs of spectra
 pub record HoldsPairs (plan : Plan) (x y : List ℕ) (c pairs : ℕ) (v : Lanes) : Type 0 where
-  pub same_real : let f = first_spectra plan x y c (2 * pairs) in HoldsSums v.same_real (f 0 0).real (f 1 1).real (pairs * 2 ^ 15)
-  pub same_imaginary : let f = first_spectra plan x y c (2 * pairs) in HoldsSums v.same_imaginary (f 0 0).imaginary (f 1 1).imaginary (pairs * 2 ^ 15)
-  pub cross_real : let f = first_spectra plan x y c (2 * pairs) in HoldsSums v.cross_real (f 0 1).real (f 1 0).real (pairs * 2 ^ 15)
-  pub cross_imaginary : let f = first_spectra plan x y c (2 * pairs) in HoldsSums v.cross_imaginary (f 0 1).imaginary (f 1 0).imaginary (pairs * 2 ^ 15)
+  pub same_real : let f =
+      first_spectra plan x y c (2 * pairs) in HoldsSums v.same_real (f 0 0).real (f 1 1).real (pairs * 2 ^ 15)
+  pub same_imaginary : let f =
+      first_spectra plan x y c (2 * pairs) in HoldsSums v.same_imaginary (f 0 0).imaginary (f 1 1).imaginary
+      (pairs * 2 ^ 15)
+  pub cross_real : let f =
+      first_spectra plan x y c (2 * pairs) in HoldsSums v.cross_real (f 0 1).real (f 1 0).real (pairs * 2 ^ 15)
+  pub cross_imaginary : let f =
+      first_spectra plan x y c (2 * pairs) in HoldsSums v.cross_imaginary (f 0 1).imaginary (f 1 0).imaginary
+      (pairs * 2 ^ 15)

@@ -96,7 +96,8 @@ pub(crate) fn channel_products(plan: &Plan, x: &[u8], y: &[u8], channel: u32) ->
     requires x_whole { length x.now ≡ sample_bytes plan.now }
     requires y_whole { length y.now ≡ sample_bytes plan.now }
     requires channel { channel < plan.now.channels }
-    ensures { ArePartsOf result (plan.now.spectra * 2 ^ 15) (λ p q. of_cells plan.now channel p q (Some x.now) (Some y.now)) }
+    ensures { ArePartsOf result (plan.now.spectra * 2 ^ 15)
+        (λ p q. of_cells plan.now channel p q (Some x.now) (Some y.now)) }
 {
     let mut sum = pair_products(plan, x, y, channel);
     for spectrum in 2 * (plan.spectra / 2)..plan.spectra {

@@ -39,12 +39,17 @@ abbrev Ends : Turn → Read → Type 0
 Ends t read = (answers : List Answer) → end_from read.after.turn answers ≡ end_from t (read.answer ∷ answers)
 
 ends_broken : (t : Turn) (cause : ReadCause) → (end_from t (Refused cause ∷ []) ≡ Some cause) → Ends t (broken cause)
-ends_broken First cause is answers = ap (λ o. option_or o (if list_any is_stop answers then None else Some causes.NoStop)) (sym (some_stays cause (map cause_in answers)))
-ends_broken (Later s counter) cause is answers = ap (λ o. option_or o (if list_any is_stop answers then None else Some causes.NoStop)) (sym (some_stays cause (map cause_in answers)))
+ends_broken First cause is answers =
+    ap (λ o. option_or o (if list_any is_stop answers then None else Some causes.NoStop))
+    (sym (some_stays cause (map cause_in answers)))
+ends_broken (Later s counter) cause is answers =
+    ap (λ o. option_or o (if list_any is_stop answers then None else Some causes.NoStop))
+    (sym (some_stays cause (map cause_in answers)))
 ends_broken Over cause is answers = sym (some_stays cause (map cause_in answers))
 ends_broken (Broken other) cause is answers = sym is
 
-ends_nothing : (t : Turn) (ps : List Parts) → Ends t (record { answer = Nothing; after = record { turn = t; begun = ps } })
+ends_nothing : (t : Turn) (ps : List Parts)
+    → Ends t (record { answer = Nothing; after = record { turn = t; begun = ps } })
 ends_nothing First ps answers = refl
 ends_nothing (Later s counter) ps answers = refl
 ends_nothing Over ps answers = refl
@@ -54,24 +59,32 @@ ends_if : (t : Turn) (test : Bool) (x y : Read) → Ends t x → Ends t y → En
 ends_if t true x y h k = h
 ends_if t false x y h k = k
 
-ends_first : (counter : ℕ) (refusal : Option DescRefusal) (sizes : Option Sizes) → Ends First (first_by counter refusal sizes)
+ends_first : (counter : ℕ) (refusal : Option DescRefusal) (sizes : Option Sizes)
+    → Ends First (first_by counter refusal sizes)
 ends_first counter (Some e) sizes = ends_broken First (causes.Descriptor e) refl
 ends_first counter None None = ends_broken First (causes.Form counter) refl
-ends_first counter None (Some s) = ends_if First (counter == 1) (between (Head s) (Later s 2)) (broken (causes.Form counter)) (λ answers. refl) (ends_broken First (causes.Form counter) refl)
+ends_first counter None (Some s) =
+    ends_if First (counter == 1) (between (Head s) (Later s 2)) (broken (causes.Form counter)) (λ answers. refl)
+    (ends_broken First (causes.Form counter) refl)
 
-ends_view : (s : Sizes) (k counter : ℕ) (timestamp : Option ℕ) (values missing : Option (List ℕ)) → Ends (Later s k) (view_by s counter timestamp values missing)
+ends_view : (s : Sizes) (k counter : ℕ) (timestamp : Option ℕ) (values missing : Option (List ℕ))
+    → Ends (Later s k) (view_by s counter timestamp values missing)
 ends_view s k counter (Some timestamp) (Some values) (Some missing) =
-    ends_if (Later s k) (are_long s values missing) _ (broken (causes.Form counter)) (λ answers. refl) (ends_broken (Later s k) (causes.Form counter) refl)
+    ends_if (Later s k) (are_long s values missing) _ (broken (causes.Form counter)) (λ answers. refl)
+    (ends_broken (Later s k) (causes.Form counter) refl)
 ends_view s k counter (Some timestamp) (Some values) None = ends_broken (Later s k) (causes.Form counter) refl
 ends_view s k counter (Some timestamp) None missing = ends_broken (Later s k) (causes.Form counter) refl
 ends_view s k counter None values missing = ends_broken (Later s k) (causes.Form counter) refl
 
 ends_later : (s : Sizes) (k : ℕ) (heap : WholeHeap) → Ends (Later s k) (later_read s k heap)
 ends_later s k heap =
-    let view = view_by s heap.counter (number_item (group_of heap) 0x1600) (addressed_content (group_of heap) 0x1800) (addressed_content (group_of heap) 0x1801) in
-    ends_if (Later s k) (not (heap.counter == k)) (broken (causes.Form heap.counter)) (if stops heap then between Stop Over else view)
+    let view = view_by s heap.counter (number_item (group_of heap) 0x1600) (addressed_content (group_of heap) 0x1800)
+    (addressed_content (group_of heap) 0x1801) in
+    ends_if (Later s k) (not (heap.counter == k)) (broken (causes.Form heap.counter))
+    (if stops heap then between Stop Over else view)
     (ends_broken (Later s k) (causes.Form heap.counter) refl)
-    (ends_if (Later s k) (stops heap) (between Stop Over) view (λ answers. sym (or_none (first_cause answers))) (ends_view s k heap.counter _ _ _))
+    (ends_if (Later s k) (stops heap) (between Stop Over) view (λ answers. sym (or_none (first_cause answers)))
+    (ends_view s k heap.counter _ _ _))
 
 ends_whole : (t : Turn) (heap : WholeHeap) → Ends t (whole_read t heap)
 ends_whole First heap = ends_first heap.counter _ _
@@ -81,25 +94,37 @@ ends_whole (Broken cause) heap = ends_broken (Broken cause) cause refl
 
 ends_kept : (t : Turn) (counter : ℕ) (ps : List Parts) → Ends t (kept_read t counter ps)
 ends_kept t counter ps =
-    ends_if t (adds_up (said_size ps) (payload_bytes ps)) (whole_read t (heap_of counter ps)) (record { answer = Nothing; after = record { turn = t; begun = ps } }) (ends_whole t (heap_of counter ps)) (ends_nothing t ps)
+    ends_if t (adds_up (said_size ps) (payload_bytes ps)) (whole_read t (heap_of counter ps))
+    (record { answer = Nothing; after = record { turn = t; begun = ps } }) (ends_whole t (heap_of counter ps))
+    (ends_nothing t ps)
 
 -- in a turn in which nothing was refused before
-ends_open : (t : Turn) (cause : Option ReadCause) (begun : List Parts) (p : Parts) → ((e : ReadCause) → end_from t (Refused e ∷ []) ≡ Some e)
+ends_open : (t : Turn) (cause : Option ReadCause) (begun : List Parts) (p : Parts)
+    → ((e : ReadCause) → end_from t (Refused e ∷ []) ≡ Some e)
     → Ends t (read_unless cause (record { turn = t; begun = begun }) p)
 ends_open t (Some cause) begun p fresh = ends_broken t cause (fresh cause)
 ends_open t None begun p fresh = ends_kept t p.counter (begun ++ p ∷ [])
 
 -- after a refusal every datagram is refused for its cause
-pub again : (limit : ℕ) (cause : ReadCause) (begun : List Parts) (bytes : List ℕ) → next_read limit (record { turn = Broken cause; begun = begun }) bytes ≡ broken cause
+pub again : (limit : ℕ) (cause : ReadCause) (begun : List Parts) (bytes : List ℕ)
+    → next_read limit (record { turn = Broken cause; begun = begun }) bytes ≡ broken cause
 again limit cause begun bytes =
     ap (λ o. read_unless o (record { turn = Broken cause; begun = begun }) (parts_in bytes))
-    (some_stays cause (option_map (λ e. causes.Packet e) (refusal_of bytes) ∷ stop_row (Broken cause) ∷ unfinished_row begun (parts_in bytes).counter ∷ drop_row limit begun (parts_in bytes) ∷ []))
+    (some_stays cause (option_map (λ e. causes.Packet e) (refusal_of bytes) ∷ stop_row (Broken cause)
+    ∷ unfinished_row begun (parts_in bytes).counter ∷ drop_row limit begun (parts_in bytes) ∷ []))
 
-ends_next : (limit : ℕ) (t : Turn) (begun : List Parts) (bytes : List ℕ) → Ends t (next_read limit (record { turn = t; begun = begun }) bytes)
-ends_next limit First begun bytes = ends_open First (early_cause limit (record { turn = First; begun = begun }) bytes) begun (parts_in bytes) (λ e. refl)
-ends_next limit (Later s counter) begun bytes = ends_open (Later s counter) (early_cause limit (record { turn = Later s counter; begun = begun }) bytes) begun (parts_in bytes) (λ e. refl)
-ends_next limit Over begun bytes = ends_open Over (early_cause limit (record { turn = Over; begun = begun }) bytes) begun (parts_in bytes) (λ e. refl)
-ends_next limit (Broken cause) begun bytes = λ answers. ap (λ (r : Read). end_from r.after.turn answers) (again limit cause begun bytes)
+ends_next : (limit : ℕ) (t : Turn) (begun : List Parts) (bytes : List ℕ)
+    → Ends t (next_read limit (record { turn = t; begun = begun }) bytes)
+ends_next limit First begun bytes =
+    ends_open First (early_cause limit (record { turn = First; begun = begun }) bytes) begun
+    (parts_in bytes) (λ e. refl)
+ends_next limit (Later s counter) begun bytes =
+    ends_open (Later s counter) (early_cause limit (record { turn = Later s counter; begun = begun }) bytes) begun
+    (parts_in bytes) (λ e. refl)
+ends_next limit Over begun bytes =
+    ends_open Over (early_cause limit (record { turn = Over; begun = begun }) bytes) begun (parts_in bytes) (λ e. refl)
+ends_next limit (Broken cause) begun bytes =
+    λ answers. ap (λ (r : Read). end_from r.after.turn answers) (again limit cause begun bytes)
 
 -- ---- lists
 
@@ -109,7 +134,8 @@ at_end (Later s counter) = refl
 at_end Over = refl
 at_end (Broken cause) = refl
 
-ends_all : (limit : ℕ) (r : Reading) (l : List (List ℕ)) → end_cause (reading_from limit r l).turn ≡ end_from r.turn (seen_from limit r l)
+ends_all : (limit : ℕ) (r : Reading) (l : List (List ℕ))
+    → end_cause (reading_from limit r l).turn ≡ end_from r.turn (seen_from limit r l)
 ends_all limit r [] = at_end r.turn
 ends_all limit r (bytes ∷ l) =
     let read = next_read limit r bytes in
@@ -119,7 +145,8 @@ ends_all limit r (bytes ∷ l) =
 pub end_is_seen : (limit : ℕ) (l : List (List ℕ)) → end_cause (reading limit l).turn ≡ end_by (seen limit l)
 end_is_seen limit l = ends_all limit unread l
 
-pub refused_again : (limit : ℕ) (cause : ReadCause) (begun : List Parts) (l : List (List ℕ)) → seen_from limit (record { turn = Broken cause; begun = begun }) l ≡ replicate (length l) (Refused cause)
+pub refused_again : (limit : ℕ) (cause : ReadCause) (begun : List Parts) (l : List (List ℕ))
+    → seen_from limit (record { turn = Broken cause; begun = begun }) l ≡ replicate (length l) (Refused cause)
 refused_again limit cause begun [] = refl
 refused_again limit cause begun (bytes ∷ l) =
     ap (λ (read : Read). read.answer ∷ seen_from limit read.after l) (again limit cause begun bytes)

@@ -45,7 +45,8 @@ IsPart ps = adds_up (said_size ps) (payload_bytes ps) ≡ false
 pub record IsBegun (live : LiveState) (ps : List Parts) : Type 0 where
   pub shows : Shows live ps
   pub part : IsPart ps
-  pub other : (counter : ℕ) → unfinished_row ps counter ≡ (if live.counter == counter then None else Some (causes.Unfinished live.counter))
+  pub other : (counter : ℕ)
+      → unfinished_row ps counter ≡ (if live.counter == counter then None else Some (causes.Unfinished live.counter))
 
 -- no heap is begun, or this one is
 abbrev pub Begun : Bool → LiveState → List Parts → Type 0
@@ -70,19 +71,29 @@ Enters ps counter new (Err cause) = unfinished_row ps counter ≡ Some cause
 
 -- a packet is added behind these: kept, the heap whole by it or not, or refused
 abbrev pub Adds : ℕ → List Parts → Parts → LiveState → Result Bool ReadCause → Type 0
-Adds limit ps p new (Ok whole) = (drop_row limit ps p ≡ None) × Shows new (ps ++ p ∷ []) × (adds_up (said_size (ps ++ p ∷ [])) (payload_bytes (ps ++ p ∷ [])) ≡ whole)
+Adds limit ps p new (Ok whole) =
+    (drop_row limit ps p ≡ None) × Shows new (ps ++ p ∷ [])
+    × (adds_up (said_size (ps ++ p ∷ [])) (payload_bytes (ps ++ p ∷ [])) ≡ whole)
 Adds limit ps p new (Err cause) = drop_row limit ps p ≡ Some cause
 
 -- a packet comes to the heap of these: kept, the heap whole by it or not, or refused
 abbrev pub Accepts : ℕ → List Parts → Parts → LiveState → Result Bool ReadCause → Type 0
-Accepts limit ps p new (Ok false) = (first_some (unfinished_row ps p.counter ∷ drop_row limit ps p ∷ []) ≡ None) × IsBegun new (ps ++ p ∷ [])
-Accepts limit ps p new (Ok true) = (first_some (unfinished_row ps p.counter ∷ drop_row limit ps p ∷ []) ≡ None) × Shows new (ps ++ p ∷ []) × (adds_up (said_size (ps ++ p ∷ [])) (payload_bytes (ps ++ p ∷ [])) ≡ true)
+Accepts limit ps p new (Ok false) =
+    (first_some (unfinished_row ps p.counter ∷ drop_row limit ps p ∷ []) ≡ None) × IsBegun new (ps ++ p ∷ [])
+Accepts limit ps p new (Ok true) =
+    (first_some (unfinished_row ps p.counter ∷ drop_row limit ps p ∷ []) ≡ None) × Shows new (ps ++ p ∷ [])
+    × (adds_up (said_size (ps ++ p ∷ [])) (payload_bytes (ps ++ p ∷ [])) ≡ true)
 Accepts limit ps p new (Err cause) = first_some (unfinished_row ps p.counter ∷ drop_row limit ps p ∷ []) ≡ Some cause
 
 -- a datagram is kept, its heap whole by it or not, or refused
 abbrev pub Keeps : ℕ → Reading → List ℕ → LiveState → Result Bool ReadCause → Type 0
-Keeps limit r bytes new (Ok false) = (next_read limit r bytes ≡ record { answer = Nothing; after = record { turn = r.turn; begun = r.begun ++ parts_in bytes ∷ [] } }) × IsBegun new (r.begun ++ parts_in bytes ∷ [])
-Keeps limit r bytes new (Ok true) = Shows new (r.begun ++ parts_in bytes ∷ []) × (next_read limit r bytes ≡ whole_read r.turn (heap_of new.counter (r.begun ++ parts_in bytes ∷ [])))
+Keeps limit r bytes new (Ok false) =
+    (next_read limit r bytes
+    ≡ record { answer = Nothing; after = record { turn = r.turn; begun = r.begun ++ parts_in bytes ∷ [] } })
+    × IsBegun new (r.begun ++ parts_in bytes ∷ [])
+Keeps limit r bytes new (Ok true) =
+    Shows new (r.begun ++ parts_in bytes ∷ [])
+    × (next_read limit r bytes ≡ whole_read r.turn (heap_of new.counter (r.begun ++ parts_in bytes ∷ [])))
 Keeps limit r bytes new (Err cause) = next_read limit r bytes ≡ broken cause
 
 -- the heap is whole by the packet

@@ -12,7 +12,9 @@ same_pieces : {A B : Type 0} (f g : A → List B) (xs : List A) → ((x : A) →
 same_pieces f g [] h = refl
 same_pieces f g (x ∷ xs) h = ap₂ (λ a b. a ++ b) (h x) (same_pieces f g xs h)
 
-pub output_of_sender : (plan : Plan) (lists : Lists) (values : ℕ → List ℤ) → ((n : ℕ) → sums_packets plan n (values n) ≡ heap_packets plan lists n)
+pub output_of_sender : (plan : Plan) (lists : Lists) (values : ℕ → List ℤ)
+    → ((n : ℕ) → sums_packets plan n (values n) ≡ heap_packets plan lists n)
     → output_of (sender_strings plan) plan values ≡ output plan lists
 output_of_sender plan lists values h =
-    ap (λ heaps. head_packets plan ++ (heaps ++ stop_packets plan)) (same_pieces (λ n. sums_packets plan n (values n)) (heap_packets plan lists) (numbers 0 plan.accumulations) h)
+    ap (λ heaps. head_packets plan ++ (heaps ++ stop_packets plan))
+    (same_pieces (λ n. sums_packets plan n (values n)) (heap_packets plan lists) (numbers 0 plan.accumulations) h)

@@ -15,7 +15,8 @@ pub record Strings : Type 0 where
 -- the whole output of these strings, for the sums of each accumulation's value: the head, the heap of each
 -- accumulation in order, the stop
 abbrev pub output_of : Strings → Plan → (ℕ → List ℤ) → List (List ℕ)
-output_of strings plan values = strings.head ++ (flat_map (λ n. strings.heap n (values n)) (numbers 0 plan.accumulations) ++ strings.stop)
+output_of strings plan values =
+    strings.head ++ (flat_map (λ n. strings.heap n (values n)) (numbers 0 plan.accumulations) ++ strings.stop)
 
 -- the strings of a sender: the descriptor heap, the visibility heap of a value's sums, the stop heap
 abbrev pub sender_strings : Plan → Strings

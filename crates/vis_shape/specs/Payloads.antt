@@ -32,7 +32,9 @@ count_bytes z = bytes_high_first 4 (cast_unsigned w32 z)
 
 -- the payload of a value's sums
 abbrev pub sums_payload : Plan → List ℤ → List ℕ
-sums_payload plan sums = values_bytes plan (take (baselines plan * block plan) sums) ++ flat_map count_bytes (drop (baselines plan * block plan) sums)
+sums_payload plan sums =
+    values_bytes plan (take (baselines plan * block plan) sums)
+    ++ flat_map count_bytes (drop (baselines plan * block plan) sums)
 
 -- the visibility heap of a value's sums, counter n + 2
 abbrev pub sums_packets : Plan → ℕ → List ℤ → List (List ℕ)

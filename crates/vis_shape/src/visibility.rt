@@ -35,7 +35,8 @@ impl Model for Visibility {
 
     ghost view = { λ s. record { plan = s.plan; values = s.values.items; missing = s.missing.items; added = s.added } };
 
-    ghost invariant = { λ s. IsVis (record { plan = s.plan; values = s.values.items; missing = s.missing.items; added = s.added }) };
+    ghost invariant = { λ s.
+        IsVis (record { plan = s.plan; values = s.values.items; missing = s.missing.items; added = s.added }) };
 }
 
 /// The number of baselines of the plan's antennas, each antenna with itself included.

@@ -108,7 +108,8 @@ pub fn first_descriptor_refusal_counts()
     ensures id { described_in (without_pointer 4 (shape_at 11)) ≡ Err NoId }
     ensures shape { described_in (with_byte 63 6 (shape_at 11)) ≡ Err ShapeBytes }
     ensures types { described_in (with_byte 79 0x66 (types_at 6)) ≡ Err TypeBytes }
-    ensures bits { described_in (descriptor_bytes (missing_with (replicate 9 Variable) (item_type_of 117 0 ∷ []))) ≡ Err Bits }
+    ensures bits { described_in (descriptor_bytes (missing_with (replicate 9 Variable) (item_type_of 117 0 ∷ [])))
+        ≡ Err Bits }
 {}
 
 /// The counter, the size and the offset of a descriptor's packet have no effect, a pointer that

@@ -89,7 +89,8 @@ pub fn shapes_of_voltages()
     ensures more { is_voltages small_plan (voltages_with (1 ∷ 1 ∷ 2 ∷ 2 ∷ 1 ∷ []) (item_type_of 105 8 ∷ [])) ≡ false }
     ensures wide { is_voltages small_plan (voltages_with (1 ∷ 1 ∷ 2 ∷ 2 ∷ []) (item_type_of 105 16 ∷ [])) ≡ false }
     ensures unsigned { is_voltages small_plan (voltages_with (1 ∷ 1 ∷ 2 ∷ 2 ∷ []) (item_type_of 117 8 ∷ [])) ≡ false }
-    ensures two_types { is_voltages small_plan (voltages_with (1 ∷ 1 ∷ 2 ∷ 2 ∷ []) (replicate 2 (item_type_of 105 8))) ≡ false }
+    ensures two_types { is_voltages small_plan (voltages_with (1 ∷ 1 ∷ 2 ∷ 2 ∷ []) (replicate 2 (item_type_of 105 8)))
+        ≡ false }
     ensures variable { has_shape (1 ∷ []) (Variable ∷ []) ≡ false }
 {}
 

@@ -63,7 +63,8 @@ pub fn report_string_by_string()
 pub fn eviction_by_one_packet_more()
     ensures third { evicts_next (with_window 2) (heard small_plan (take 2 halves)) (parts_in (half 3)) ≡ Some 1 }
     ensures second { evicts_next (with_window 2) (heard small_plan (take 1 halves)) (parts_in (half 2)) ≡ None }
-    ensures past_the_limit { evicts_next (with_window 2) (heard small_plan (take 2 halves)) (parts_in (piece 3 (Some 4101) 0 []))
+    ensures past_the_limit { evicts_next (with_window 2) (heard small_plan (take 2 halves))
+        (parts_in (piece 3 (Some 4101) 0 []))
         ≡ None }
 {}
 

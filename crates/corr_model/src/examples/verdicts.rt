@@ -41,7 +41,8 @@ pub fn all_three_are_described()
         ≡ Undescribed ∷ Undescribed ∷ [] }
     ensures no_voltages { verdicts undescribed_plan 0 (described_as (scalar 0x1600 ∷ scalar 0x4101 ∷ []))
         ≡ Undescribed ∷ Undescribed ∷ [] }
-    ensures signed_timestamp { verdicts undescribed_plan 0 (described_as (signed_scalar 0x1600 ∷ scalar 0x4101 ∷ voltages small_plan ∷ []))
+    ensures signed_timestamp { verdicts undescribed_plan 0
+        (described_as (signed_scalar 0x1600 ∷ scalar 0x4101 ∷ voltages small_plan ∷ []))
         ≡ Undescribed ∷ Undescribed ∷ [] }
 {}
 

@@ -20,7 +20,12 @@ impl Model for FaultPlan {
 
     ghost Value = { Faults };
 
-    ghost view = { λ s. record { fails = s.fails.items; begin_fails = s.begin_fails; calls = s.calls; count = s.count } };
+    ghost view = { λ s. record {
+      fails = s.fails.items;
+      begin_fails = s.begin_fails;
+      calls = s.calls;
+      count = s.count;
+    } };
 }
 
 impl FaultPlan {

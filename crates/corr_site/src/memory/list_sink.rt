@@ -29,7 +29,13 @@ impl Model for ListSink {
 
     ghost Value = { Sink };
 
-    ghost view = { λ s. record { sent = cut_up s.lens.items s.bytes.items; strings = s.strings; room = s.room; faults = s.faults; at = s.spot } };
+    ghost view = { λ s. record {
+      sent = cut_up s.lens.items s.bytes.items;
+      strings = s.strings;
+      room = s.room;
+      faults = s.faults;
+      at = s.spot;
+    } };
 
     ghost invariant = { λ s. IsSink s.lens s.bytes s.strings s.room };
 }
@@ -58,7 +64,14 @@ impl ListSink {
         fails: Vec<u64>,
         begin_fails: bool,
     ) -> Result<ListSink, NoMemory>
-        ensures { IfOk result (λ s. s ≡ record { sent = []; strings = strings; room = bytes; faults = unused fails.items begin_fails; at = None }) }
+        ensures { IfOk result
+            (λ s. s ≡ record {
+              sent = [];
+              strings = strings;
+              room = bytes;
+              faults = unused fails.items begin_fails;
+              at = None;
+            }) }
     {
         Ok(ListSink {
             lens: Vec::with_capacity(alloc, strings)?,

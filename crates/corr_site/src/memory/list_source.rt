@@ -29,7 +29,11 @@ impl<O: Observation> Model for ListSource<O> {
 
     ghost Value = { Source };
 
-    ghost view = { λ s. record { strings = strings_of s.list.items; faults = s.faults; at = with_antenna s.antenna s.spot } };
+    ghost view = { λ s. record {
+      strings = strings_of s.list.items;
+      faults = s.faults;
+      at = with_antenna s.antenna s.spot;
+    } };
 
     ghost invariant = { λ s. IsSource s.list s.faults s.cut };
 }
@@ -41,7 +45,11 @@ impl<O: Observation> ListSource<O> {
     /// whose `begin` fails if it is said so.
     pub fn new(list: Vec<Vec<u8>>, fails: Vec<u64>, begin_fails: bool) -> ListSource<O>
         requires short { All (λ v. vec_len v ≤ 65535) list.items }
-        ensures { result ≡ record { strings = strings_of list.items; faults = unused fails.items begin_fails; at = None } }
+        ensures { result ≡ record {
+          strings = strings_of list.items;
+          faults = unused fails.items begin_fails;
+          at = None;
+        } }
     {
         let faults = FaultPlan::new(fails, begin_fails);
         let cut = faults.least_of(list.as_slice().len());
@@ -135,7 +143,8 @@ impl<O: Observation> PacketSource<O> for ListSource<O> {
         ensures exact { self.new ≡ source_called self.old }
         ensures answer { SourceAnswers self.old buf.new result }
         ensures gives { source_gives self.new ≡ source_gives self.old }
-        ensures given { NextGives (Some (source_gives self.old)) (source_given self.old) (source_given self.new) buf.new result }
+        ensures given { NextGives (Some (source_gives self.old)) (source_given self.old) (source_given self.new)
+            buf.new result }
         ensures fits { NextFits result }
         ensures begun { is_some self.new.at ≡ true }
         ensures at { self.new.at ≡ self.old.at }

@@ -26,7 +26,11 @@ impl Model for ListText {
 
     ghost Value = { Reading };
 
-    ghost view = { λ s. record { left = drop s.read s.bytes.items; faults = s.faults; at = option_map (λ p. p.text) s.spot } };
+    ghost view = { λ s. record {
+      left = drop s.read s.bytes.items;
+      faults = s.faults;
+      at = option_map (λ p. p.text) s.spot;
+    } };
 
     ghost invariant = { λ s. s.read ≤ length s.bytes.items };
 }

@@ -28,4 +28,5 @@ returns-in-Ok-clause-runs g c =
 pub returns-clause-at_sources : goal.returns-clause-at_sources
 returns-clause-at_sources g c =
     let S = g.S.PacketSource in
-    none_placed (λ s. S.begun s.source) (λ s. S.at s.source) c.args.asked.settings.inputs c.args.sources.now c.args.sources.now c.requires.none_begun refl (record { each = λ a d past. refl })
+    none_placed (λ s. S.begun s.source) (λ s. S.at s.source) c.args.asked.settings.inputs c.args.sources.now
+    c.args.sources.now c.requires.none_begun refl (record { each = λ a d past. refl })

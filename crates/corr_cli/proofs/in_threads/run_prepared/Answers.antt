@@ -37,8 +37,10 @@ returns-clause-runs g c =
 pub returns-in-Err-clause-at_sources : goal.returns-in-Err-clause-at_sources
 returns-in-Err-clause-at_sources g c =
     let S = g.S.PacketSource in
-    subst (λ places. AreAtOwn (λ s. S.begun s.source) (λ s. S.at s.source) places c.begin_all.new.sources) c.as_slice.ensures.value
-    (some_placed (λ s. S.begun s.source) (λ s. S.at s.source) c.as_slice.result.now c.args.sources.now c.begin_all.new.sources c.requires.none_begun c.in-Err.ensures.length
+    subst (λ places. AreAtOwn (λ s. S.begun s.source) (λ s. S.at s.source) places c.begin_all.new.sources)
+    c.as_slice.ensures.value
+    (some_placed (λ s. S.begun s.source) (λ s. S.at s.source) c.as_slice.result.now c.args.sources.now
+    c.begin_all.new.sources c.requires.none_begun c.in-Err.ensures.length
     c.in-Err.antenna c.in-Err.ensures.cause.within c.in-Err.ensures.at c.in-Err.ensures.begun c.in-Err.ensures.later)
 
 pub returns-clause-at_sources : goal.returns-clause-at_sources
@@ -48,8 +50,12 @@ returns-clause-at_sources g c =
     let old = c.args.sources.now in
     let mid = c.begin_all.new.sources in
     let new = c.run_begun.new.sources in
-    let count : c.args.ready.plan.antennas ≡ length places = sym (ap length c.as_slice.ensures.value ∙ c.requires.inputs) in
+    let count : c.args.ready.plan.antennas ≡ length places =
+    sym (ap length c.as_slice.ensures.value ∙ c.requires.inputs) in
     subst (λ ps. AreAtOwn (λ s. S.begun s.source) (λ s. S.at s.source) ps new) c.as_slice.ensures.value
-    (all_placed (λ s. S.begun s.source) (λ s. S.at s.source) places old new c.requires.none_begun (c.run_begun.ensures.length ∙ c.in_default.ensures.length)
-    (placed_later (λ s. S.at s.source) places (length places) old mid new c.in_default.ensures.at c.run_begun.ensures.at)
-    (same_later (length places) old mid new c.in_default.ensures.later (subst (λ n. AreSameFrom n mid new) count c.run_begun.ensures.later)))
+    (all_placed (λ s. S.begun s.source) (λ s. S.at s.source) places old new c.requires.none_begun
+    (c.run_begun.ensures.length ∙ c.in_default.ensures.length)
+    (placed_later (λ s. S.at s.source) places (length places) old mid new c.in_default.ensures.at
+    c.run_begun.ensures.at)
+    (same_later (length places) old mid new c.in_default.ensures.later
+    (subst (λ n. AreSameFrom n mid new) count c.run_begun.ensures.later)))

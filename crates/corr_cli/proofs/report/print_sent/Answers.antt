@@ -5,7 +5,10 @@ use Rattle.corr_cli.specs.Texts.{later_text}
 use Rattle.corr_cli.proofs.report.print_sent.Goals as goal
 
 pub returns-in-Err-clause-written : goal.returns-in-Err-clause-written
-returns-in-Err-clause-written g c = front_of_more _ _ (status_text (status.Sent c.args.packets)) (later_text c.args.fault) c.in-Err.ensures.written
+returns-in-Err-clause-written g c =
+    front_of_more _ _ (status_text (status.Sent c.args.packets)) (later_text c.args.fault) c.in-Err.ensures.written
 
 pub returns-clause-written : goal.returns-clause-written
-returns-clause-written g c = written_then _ _ _ c.print_fault.result (status_text (status.Sent c.args.packets)) (later_text c.args.fault) c.in_default.ensures.written c.print_fault.ensures.written
+returns-clause-written g c =
+    written_then _ _ _ c.print_fault.result (status_text (status.Sent c.args.packets)) (later_text c.args.fault)
+    c.in_default.ensures.written c.print_fault.ensures.written

@@ -11,5 +11,7 @@ returns-in-Err-clause-written g c =
 
 pub returns-clause-written : goal.returns-clause-written
 returns-clause-written g c =
-    written_then _ _ _ c.print_streams.result (summary_text c.args.sent.now) (streams_text 0 c.args.reports.now ++ later_text c.args.fault)
-    (line_of_all _ _ _ _ _ _ _ c.summary_line-len.ensures.line c.front.ensures c.in_default.ensures.written) c.print_streams.ensures.written
+    written_then _ _ _ c.print_streams.result (summary_text c.args.sent.now)
+    (streams_text 0 c.args.reports.now ++ later_text c.args.fault)
+    (line_of_all _ _ _ _ _ _ _ c.summary_line-len.ensures.line c.front.ensures c.in_default.ensures.written)
+    c.print_streams.ensures.written

@@ -36,7 +36,8 @@ pub returns-in-Err-clause-at_sources : goal.returns-in-Err-clause-at_sources
 returns-in-Err-clause-at_sources g c =
     let S = g.S.PacketSource in
     subst (λ places. AreAtOwn S.begun S.at places c.begin_all.new.sources) c.as_slice.ensures.value
-    (some_placed S.begun S.at c.as_slice.result.now c.args.sources.now c.begin_all.new.sources c.requires.none_begun c.in-Err.ensures.length
+    (some_placed S.begun S.at c.as_slice.result.now c.args.sources.now c.begin_all.new.sources c.requires.none_begun
+    c.in-Err.ensures.length
     c.in-Err.antenna c.in-Err.ensures.cause.within c.in-Err.ensures.at c.in-Err.ensures.begun c.in-Err.ensures.later)
 
 pub returns-clause-at_sources : goal.returns-clause-at_sources
@@ -46,8 +47,11 @@ returns-clause-at_sources g c =
     let old = c.args.sources.now in
     let mid = c.begin_all.new.sources in
     let new = c.run_begun.new.sources in
-    let count : c.args.prepared.plan.antennas ≡ length places = sym (ap length c.as_slice.ensures.value ∙ c.requires.inputs) in
+    let count : c.args.prepared.plan.antennas ≡ length places =
+    sym (ap length c.as_slice.ensures.value ∙ c.requires.inputs) in
     subst (λ ps. AreAtOwn S.begun S.at ps new) c.as_slice.ensures.value
-    (all_placed S.begun S.at places old new c.requires.none_begun (c.run_begun.ensures.length ∙ c.in_default.ensures.length)
+    (all_placed S.begun S.at places old new c.requires.none_begun
+    (c.run_begun.ensures.length ∙ c.in_default.ensures.length)
     (placed_later S.at places (length places) old mid new c.in_default.ensures.at c.run_begun.ensures.at)
-    (same_later (length places) old mid new c.in_default.ensures.later (subst (λ n. AreSameFrom n mid new) count c.run_begun.ensures.later)))
+    (same_later (length places) old mid new c.in_default.ensures.later
+    (subst (λ n. AreSameFrom n mid new) count c.run_begun.ensures.later)))

@@ -8,8 +8,10 @@ returns-in_default-clause-value c = no_numbers (map string_bytes c.args.words.no
 
 pub returns-in-Ok-clause-value : goal.returns-in-Ok-clause-value
 returns-in-Ok-clause-value c =
-    accepted_numbers (map string_bytes c.args.words.now) c.in-Some.said c.in-Ok.field-0 (sym c.in-Some.ensures) (ap plain_settings (sym c.numbers_of.ensures) ∙ sym c.in-Ok.ensures.settings)
+    accepted_numbers (map string_bytes c.args.words.now) c.in-Some.said c.in-Ok.field-0 (sym c.in-Some.ensures)
+    (ap plain_settings (sym c.numbers_of.ensures) ∙ sym c.in-Ok.ensures.settings)
 
 pub returns-in-Err-clause-value : goal.returns-in-Err-clause-value
 returns-in-Err-clause-value c =
-    refused_plain (map string_bytes c.args.words.now) c.in-Some.said c.in-Err.refusal (sym c.in-Some.ensures) (ap plain_settings (sym c.numbers_of.ensures) ∙ sym c.in-Err.ensures.settings)
+    refused_plain (map string_bytes c.args.words.now) c.in-Some.said c.in-Err.refusal (sym c.in-Some.ensures)
+    (ap plain_settings (sym c.numbers_of.ensures) ∙ sym c.in-Err.ensures.settings)

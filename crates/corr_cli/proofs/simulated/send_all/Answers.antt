@@ -12,8 +12,11 @@ returns-in-Ok-clause-sends g c =
     let whole = ap length c.requires.whole in
     let none : length (list_at s) - length (rest_of s) ≡ 0 = omega (arith, whole) in
     answers_same _ _ _ _ c.answer_to.ensures
-    (relay_sends (list_at s) _ (length (list_at s) - length (rest_of s)) _ _ none c.requires.few c.relay.ensures.sink_begun c.in-Ok.ensures.cause.kept _ c.in-Ok.ensures.sent c.relay.result c.relay.ensures.relays c.relay.ensures.cause)
+    (relay_sends (list_at s) _ (length (list_at s) - length (rest_of s)) _ _ none c.requires.few
+    c.relay.ensures.sink_begun c.in-Ok.ensures.cause.kept _ c.in-Ok.ensures.sent c.relay.result
+    c.relay.ensures.relays c.relay.ensures.cause)
 
 pub returns-in-Err-clause-sends : goal.returns-in-Err-clause-sends
 returns-in-Err-clause-sends g c =
-    unsent (list_at c.args.source.now) _ c.in-Err.ensures.sent (record { later = c.in-Err.ensures.cause.later; rose = c.in-Err.ensures.cause.failed })
+    unsent (list_at c.args.source.now) _ c.in-Err.ensures.sent
+    (record { later = c.in-Err.ensures.cause.later; rose = c.in-Err.ensures.cause.failed })

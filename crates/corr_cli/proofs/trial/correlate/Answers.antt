@@ -11,8 +11,10 @@ shared-requires-clause-named g c = λ named. (c.requires.observed named).same_pl
 pub run_begun-requires-clause-enough : goal.run_begun-requires-clause-enough
 run_begun-requires-clause-enough g c =
     λ lifetimes outlives.
-    let some : Seat g.row.O.Denot (SimSource g.row.O.Denot) = record { source = some_spot c.args.settings.now.plan; receiver = None } in
-    let many = seats_many c.args.settings.now.plan c.args.seed (λ s. s.source) some c.in-Ok-simulated_seats.seats.items c.in-Ok-simulated_seats.ensures in
+    let some : Seat g.row.O.Denot (SimSource g.row.O.Denot) =
+    record { source = some_spot c.args.settings.now.plan; receiver = None } in
+    let many = seats_many c.args.settings.now.plan c.args.seed (λ s. s.source) some c.in-Ok-simulated_seats.seats.items
+    c.in-Ok-simulated_seats.ensures in
     let plan = ap (λ p. p.antennas) c.in-Ok.ensures in
     let items = ap length c.deref_mut.ensures.value in
     omega (arith, many, plan, items)
@@ -24,15 +26,21 @@ pub run_begun-requires-clause-observed : goal.run_begun-requires-clause-observed
 run_begun-requires-clause-observed g c =
     λ lifetimes outlives named.
     let O = g.O.Observation in
-    let some : Seat g.row.O.Denot (SimSource g.row.O.Denot) = record { source = some_spot c.args.settings.now.plan; receiver = None } in
-    let are = are_same c.in-Ok.ready.plan c.args.settings.now.plan c.args.seed (λ s. s.source) c.deref_mut.result.now c.in-Ok-simulated_seats.seats.items c.in-Ok.ensures c.deref_mut.ensures.value c.in-Ok-simulated_seats.ensures in
+    let some : Seat g.row.O.Denot (SimSource g.row.O.Denot) =
+    record { source = some_spot c.args.settings.now.plan; receiver = None } in
+    let are = are_same c.in-Ok.ready.plan c.args.settings.now.plan c.args.seed (λ s. s.source) c.deref_mut.result.now
+    c.in-Ok-simulated_seats.seats.items c.in-Ok.ensures c.deref_mut.ensures.value c.in-Ok-simulated_seats.ensures in
     are_observed c.in-Ok.ready.plan c.args.seed (λ s. s.source) some c.deref_mut.result.now are O.plan O.list
     (subst (λ p. IsTrialOf O.plan O.list p c.args.seed) (sym c.in-Ok.ensures) (c.requires.observed named))
 
 pub returns-in-Ok-simulated_seats-clause-runs : goal.returns-in-Ok-simulated_seats-clause-runs
 returns-in-Ok-simulated_seats-clause-runs g c =
     λ config serial.
-    let some : Seat g.row.O.Denot (SimSource g.row.O.Denot) = record { source = some_spot c.args.settings.now.plan; receiver = None } in
-    let are = are_same c.in-Ok.ready.plan c.args.settings.now.plan c.args.seed (λ s. s.source) c.deref_mut.result.now c.in-Ok-simulated_seats.seats.items c.in-Ok.ensures c.deref_mut.ensures.value c.in-Ok-simulated_seats.ensures in
-    trial_runs c.in-Ok.ready.plan c.args.seed (λ s. s.source) some c.deref_mut.result.now are c.run_begun.new.sources _ g.O.Observation.names c.args.settings.now config serial
-    (sym c.in-Ok.ensures) c.run_begun.ensures.at_sink c.run_begun.result c.run_begun.ensures.over c.run_begun.ensures.runs
+    let some : Seat g.row.O.Denot (SimSource g.row.O.Denot) =
+    record { source = some_spot c.args.settings.now.plan; receiver = None } in
+    let are = are_same c.in-Ok.ready.plan c.args.settings.now.plan c.args.seed (λ s. s.source) c.deref_mut.result.now
+    c.in-Ok-simulated_seats.seats.items c.in-Ok.ensures c.deref_mut.ensures.value c.in-Ok-simulated_seats.ensures in
+    trial_runs c.in-Ok.ready.plan c.args.seed (λ s. s.source) some c.deref_mut.result.now are c.run_begun.new.sources _
+    g.O.Observation.names c.args.settings.now config serial
+    (sym c.in-Ok.ensures) c.run_begun.ensures.at_sink c.run_begun.result c.run_begun.ensures.over
+    c.run_begun.ensures.runs

@@ -4,12 +4,18 @@ use Rattle.corr_cli.proofs.SimulatedLemmas.{comes_of_answer, comes_of_asked}
 use Rattle.corr_cli.proofs.trial.trial.Goals as goal
 
 pub correlate-requires-clause-observed : goal.correlate-requires-clause-observed
-correlate-requires-clause-observed g c = λ lifetimes outlives named. c.requires.observed named c.in-Ok.asked.settings (λ bytes told. (c.in-Ok.ensures.says bytes told).0)
+correlate-requires-clause-observed g c =
+    λ lifetimes outlives named.
+    c.requires.observed named c.in-Ok.asked.settings (λ bytes told. (c.in-Ok.ensures.says bytes told).0)
 
 pub returns-in-Ok-clause-comes : goal.returns-in-Ok-clause-comes
 returns-in-Ok-clause-comes g c =
-    λ serial. comes_of_asked _ (Trial c.args.config.now c.args.seed serial) _ _ c.in-Ok.asked c.in-Ok.ensures.says c.in-Ok.ensures.begun c.in-Ok.ensures.cause c.correlate.result (c.correlate.ensures.runs c.args.config.now serial)
+    λ serial. comes_of_asked _ (Trial c.args.config.now c.args.seed serial) _ _ c.in-Ok.asked c.in-Ok.ensures.says
+    c.in-Ok.ensures.begun c.in-Ok.ensures.cause c.correlate.result
+    (c.correlate.ensures.runs c.args.config.now serial)
 
 pub returns-in-Err-clause-comes : goal.returns-in-Err-clause-comes
 returns-in-Err-clause-comes g c =
-    λ serial. comes_of_answer _ (Trial c.args.config.now c.args.seed serial) _ _ c.in-Err.answer c.in-Err.ensures.answers c.in-Err.ensures.says c.in-Err.ensures.cause (record { unused = record { unbegun = c.requires.sink; quiet = refl }; calm = refl })
+    λ serial. comes_of_answer _ (Trial c.args.config.now c.args.seed serial) _ _ c.in-Err.answer
+    c.in-Err.ensures.answers c.in-Err.ensures.says c.in-Err.ensures.cause
+    (record { unused = record { unbegun = c.requires.sink; quiet = refl }; calm = refl })

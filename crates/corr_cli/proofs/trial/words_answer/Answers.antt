@@ -7,7 +7,9 @@ use Rattle.corr_cli.proofs.ThreadLemmas.{asked_trial, trial_observed}
 use Rattle.corr_cli.proofs.trial.words_answer.Goals as goal
 
 pub run_trial-requires-clause-trial : goal.run_trial-requires-clause-trial
-run_trial-requires-clause-trial g c = λ lifetimes outlives. asked_trial (map string_bytes c.args.words.now) c.in-Ok.command c.requires.trial c.in-Ok.ensures.form
+run_trial-requires-clause-trial g c =
+    λ lifetimes outlives.
+    asked_trial (map string_bytes c.args.words.now) c.in-Ok.command c.requires.trial c.in-Ok.ensures.form
 
 pub run_trial-requires-clause-observed : goal.run_trial-requires-clause-observed
 run_trial-requires-clause-observed g c =
@@ -18,9 +20,12 @@ run_trial-requires-clause-observed g c =
     trial_observed O.plan O.list words _ c.in-Ok.command c.in-Ok.ensures.form watched config seed serial run is says
 
 pub returns-in-Ok-clause-comes : goal.returns-in-Ok-clause-comes
-returns-in-Ok-clause-comes g c = words_some _ (form (map string_bytes c.args.words.now)) _ _ c.in-Ok.command c.run_trial.result c.in-Ok.ensures.form c.run_trial.ensures.comes c.run_trial.ensures.at
+returns-in-Ok-clause-comes g c =
+    words_some _ (form (map string_bytes c.args.words.now)) _ _ c.in-Ok.command c.run_trial.result c.in-Ok.ensures.form
+    c.run_trial.ensures.comes c.run_trial.ensures.at
 
 pub returns-in-Err-NoMemory-clause-comes : goal.returns-in-Err-NoMemory-clause-comes
 returns-in-Err-NoMemory-clause-comes g c =
-    words_out _ (form (map string_bytes c.args.words.now)) _ _ (none_of_memory _ _ c.in-Err-NoMemory.ensures.form c.in-Err-NoMemory.field-0-is) c.requires.settings
+    words_out _ (form (map string_bytes c.args.words.now)) _ _
+    (none_of_memory _ _ c.in-Err-NoMemory.ensures.form c.in-Err-NoMemory.field-0-is) c.requires.settings
     (record { idle = record { unused = record { unbegun = c.requires.sink; quiet = refl }; calm = refl }; calm = refl })

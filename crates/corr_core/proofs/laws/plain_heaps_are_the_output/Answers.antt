@@ -7,4 +7,5 @@ use Rattle.corr_core.proofs.laws.plain_heaps_are_the_output.Goals as goal
 
 pub returns : goal.returns
 returns c = λ plan lists.
-    ap {B = OutputHeaps} (λ heap. record { head = head_packets plan; heap = heap; stop = stop_packets plan }) (fun_ext (heap_of_cross plan lists))
+    ap {B = OutputHeaps} (λ heap. record { head = head_packets plan; heap = heap; stop = stop_packets plan })
+    (fun_ext (heap_of_cross plan lists))

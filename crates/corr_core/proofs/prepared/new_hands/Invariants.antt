@@ -5,4 +5,6 @@ use Rattle.corr_core.proofs.NewLemmas.{BuiltTo}
 use Rattle.corr_core.proofs.prepared.new_hands.Given as goal
 
 abbrev pub invariant-loop : goal.invariant-loop
-invariant-loop g l = BuiltTo (λ a h. h ≡ spare_hand l.plan) l.plan.antennas l.hands.items (vec_len l.hands) (vec_capacity l.hands) l.counter
+invariant-loop g l =
+    BuiltTo (λ a h. h ≡ spare_hand l.plan) l.plan.antennas l.hands.items (vec_len l.hands)
+    (vec_capacity l.hands) l.counter

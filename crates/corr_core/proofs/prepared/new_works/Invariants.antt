@@ -6,4 +6,6 @@ use Rattle.corr_core.proofs.NewLemmas.{BuiltTo}
 use Rattle.corr_core.proofs.prepared.new_works.Given as goal
 
 abbrev pub invariant-loop : goal.invariant-loop
-invariant-loop g l = BuiltTo (λ w k. k ≡ free_work l.plan (g.B.Backend.size l.plan)) (work_count l.plan) l.works.items (vec_len l.works) (vec_capacity l.works) l.counter
+invariant-loop g l =
+    BuiltTo (λ w k. k ≡ free_work l.plan (g.B.Backend.size l.plan)) (work_count l.plan) l.works.items (vec_len l.works)
+    (vec_capacity l.works) l.counter

@@ -18,7 +18,9 @@ push_reserved-requires g c =
     omega (arith, counted, fits_in, told, low)
 
 pub loop-antenna-preserved : goal.loop-antenna-preserved
-loop-antenna-preserved g c = reports_more _ _ _ _ _ _ _ _ _ c.loop-antenna.invariant c.push_reserved.ensures.items c.push_reserved.ensures.len c.push_reserved.ensures.capacity
+loop-antenna-preserved g c =
+    reports_more _ _ _ _ _ _ _ _ _ c.loop-antenna.invariant c.push_reserved.ensures.items c.push_reserved.ensures.len
+    c.push_reserved.ensures.capacity
 
 pub returns : goal.returns
 returns g c =

@@ -13,7 +13,8 @@ invariant-loop-number g l =
     let value = g.B.Backend.value in
     let plan = l.fn.core.parts.plan in
     record {
-      goes : Goes value S.gives S.given S.faults plan l.fn.core.backend l.fn.sources l.sources l.fn.core l.core l.number 0 (opening plan) (K.sent l.fn.sink) (K.sent l.sink) (E.tally l.fn.core.emit) (E.tally l.core.emit)
+      goes : Goes value S.gives S.given S.faults plan l.fn.core.backend l.fn.sources l.sources l.fn.core l.core l.number
+          0 (opening plan) (K.sent l.fn.sink) (K.sent l.sink) (E.tally l.fn.core.emit) (E.tally l.core.emit)
           (sent_to value l.fn.core.backend (E.strings plan) plan l.number);
       sources : KeepsSources S.begun S.at S.gives S.belongs plan.antennas l.fn.sources l.sources;
       same_length : length l.sources ≡ length l.fn.sources;

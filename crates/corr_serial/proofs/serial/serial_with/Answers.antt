@@ -17,11 +17,17 @@ returns g c =
     let before = c.args.sink.now in
     let after = c.run_reported-ran.new.sink in
     let e = c.run_reported-ran.ensures in
-    let sources = subst (λ (v : PreparedView g.row.B.Denot g.row.E.Denot). KeepsSources S.begun S.at S.gives S.belongs v.plan.antennas start last) c.prepared.view_is e.sources in
-    let concludes = subst (λ (v : PreparedView g.row.B.Denot g.row.E.Denot). Concludes (meaning_of g.B.Backend.value v.backend (g.E.Emit.strings v.plan) v.plan) v.plan S.gives S.given S.faults start last c.run_reported-ran.new.reports (K.sent before) (K.sent after)
-    (g.E.Emit.tally c.run_reported-ran.new.core.emit) (K.faults before) (K.faults after) c.run_reported-ran.result) c.prepared.view_is e.concludes in
+    let sources = subst (λ (v : PreparedView g.row.B.Denot g.row.E.Denot). KeepsSources S.begun S.at S.gives S.belongs
+    v.plan.antennas start last) c.prepared.view_is e.sources in
+    let concludes = subst
+    (λ (v : PreparedView g.row.B.Denot g.row.E.Denot). Concludes
+    (meaning_of g.B.Backend.value v.backend (g.E.Emit.strings v.plan) v.plan) v.plan S.gives S.given S.faults
+    start last c.run_reported-ran.new.reports (K.sent before) (K.sent after)
+    (g.E.Emit.tally c.run_reported-ran.new.core.emit) (K.faults before) (K.faults after) c.run_reported-ran.result)
+    c.prepared.view_is e.concludes in
     let same = c.of.ensures ∙ with_items_is c.prepared.inside.reports c.run_reported-ran.new.reports (omega arith) in
-    let k = conclude_of (meaning_of g.B.Backend.value seen.backend (g.E.Emit.strings seen.plan) seen.plan) seen.plan S.gives S.given S.faults _ _ _ _ _ _ _ _ _ _ _ same c.sent.ensures concludes in
+    let k = conclude_of (meaning_of g.B.Backend.value seen.backend (g.E.Emit.strings seen.plan) seen.plan) seen.plan
+    S.gives S.given S.faults _ _ _ _ _ _ _ _ _ _ _ same c.sent.ensures concludes in
     record {
       length = c.run_reported-ran.auto.sources;
       later = sources.later;

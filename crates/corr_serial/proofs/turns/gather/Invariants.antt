@@ -14,8 +14,10 @@ invariant-strings g l =
     let E = g.E.Emit in
     let value = g.B.Backend.value in
     record {
-      goes : (plan : Plan) (backend : _) (number : ℕ) (state : State) → IsAt value plan backend l.fn.core number l.antenna state → number < plan.accumulations
-          → Goes value S.gives S.given S.faults plan backend l.fn.sources l.sources l.fn.core l.core number l.antenna state (K.sent l.fn.sink) (K.sent l.sink) (E.tally l.fn.core.emit) (E.tally l.core.emit) (λ all. []);
+      goes : (plan : Plan) (backend : _) (number : ℕ) (state : State)
+          → IsAt value plan backend l.fn.core number l.antenna state → number < plan.accumulations
+          → Goes value S.gives S.given S.faults plan backend l.fn.sources l.sources l.fn.core l.core number l.antenna
+          state (K.sent l.fn.sink) (K.sent l.sink) (E.tally l.fn.core.emit) (E.tally l.core.emit) (λ all. []);
       sources : KeepsSources S.begun S.at S.gives S.belongs l.fn.core.parts.plan.antennas l.fn.sources l.sources;
       same_length : length l.sources ≡ length l.fn.sources;
       same_plan : l.core.parts.plan ≡ l.fn.core.parts.plan;

@@ -9,7 +9,9 @@ pub loop-name-init : goal.loop-name-init
 loop-name-init c = (
   tt,
   tt,
-  ap (first_of unknown_key) (ap (map string_bytes) (c.into_iter-name-iterator.ensures.into_iter_gives ∙ c.keys-name-items.ensures.rest))
+  ap (first_of unknown_key)
+      (ap (map string_bytes) (c.into_iter-name-iterator.ensures.into_iter_gives ∙ c.keys-name-items.ensures.rest))
       ∙ first_is_least _ c.keys-name-items.ensures.ordered
-      ∙ ap (λ names. least_of (filter (λ name. not (is_known name)) names)) (sym (keys_in-members_view c.args.table.now.entries)),
+      ∙ ap (λ names. least_of (filter (λ name. not (is_known name)) names))
+      (sym (keys_in-members_view c.args.table.now.entries)),
 )

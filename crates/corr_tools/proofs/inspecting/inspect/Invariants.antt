@@ -5,4 +5,5 @@ abbrev pub invariant-loop-count : goal.invariant-loop-count
 invariant-loop-count g l =
     let S = g.S.PacketSource in
     let P = g.P.TextSink in
-    InspectLoop S.begun S.at S.gives S.belongs S.given S.faults P.written P.faults l.fn.source l.source l.fn.print l.print l.count l.printed
+    InspectLoop S.begun S.at S.gives S.belongs S.given S.faults P.written P.faults l.fn.source l.source l.fn.print
+    l.print l.count l.printed

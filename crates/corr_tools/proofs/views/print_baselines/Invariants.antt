@@ -9,4 +9,6 @@ abbrev pub invariant-loop-baseline : goal.invariant-loop-baseline
 invariant-loop-baseline g l =
     let P = g.P.TextSink in
     let count = (view_of l.view).sizes.baselines in
-    Lines (channels_text (view_of l.view)) [] (numbers 0 count) (numbers 0 l.baseline) (numbers l.baseline (count - l.baseline)) (P.written l.fn.print) (P.written l.print) (P.faults l.fn.print) (P.faults l.print)
+    Lines (channels_text (view_of l.view)) [] (numbers 0 count) (numbers 0 l.baseline)
+    (numbers l.baseline (count - l.baseline)) (P.written l.fn.print) (P.written l.print) (P.faults l.fn.print)
+    (P.faults l.print)

@@ -5,8 +5,12 @@ use Rattle.corr_tools.proofs.TextLemmas.{front_of_more, written_then}
 use Rattle.corr_tools.proofs.views.print_channels.Goals as goal
 
 pub returns-in-Err-clause-written : goal.returns-in-Err-clause-written
-returns-in-Err-clause-written g c = front_of_more _ _ (baseline_text (view_of c.args.view.now) c.args.baseline) (values_text (view_of c.args.view.now) c.args.baseline) c.in-Err.ensures.written
+returns-in-Err-clause-written g c =
+    front_of_more _ _ (baseline_text (view_of c.args.view.now) c.args.baseline)
+    (values_text (view_of c.args.view.now) c.args.baseline) c.in-Err.ensures.written
 
 pub returns-clause-written : goal.returns-clause-written
 returns-clause-written g c =
-    written_then _ _ _ c.print_values.result (baseline_text (view_of c.args.view.now) c.args.baseline) (values_text (view_of c.args.view.now) c.args.baseline) c.in_default.ensures.written c.print_values.ensures.written
+    written_then _ _ _ c.print_values.result (baseline_text (view_of c.args.view.now) c.args.baseline)
+    (values_text (view_of c.args.view.now) c.args.baseline) c.in_default.ensures.written
+    c.print_values.ensures.written

@@ -5,7 +5,11 @@ use Rattle.corr_tools.proofs.TextLemmas.{front_of_more, written_then}
 use Rattle.corr_tools.proofs.views.print_view.Goals as goal
 
 pub returns-in-Err-clause-written : goal.returns-in-Err-clause-written
-returns-in-Err-clause-written g c = front_of_more _ _ (heap_text (view_of c.args.view.now)) (baselines_text (view_of c.args.view.now)) c.in-Err.ensures.written
+returns-in-Err-clause-written g c =
+    front_of_more _ _ (heap_text (view_of c.args.view.now)) (baselines_text (view_of c.args.view.now))
+    c.in-Err.ensures.written
 
 pub returns-clause-written : goal.returns-clause-written
-returns-clause-written g c = written_then _ _ _ c.print_baselines.result (heap_text (view_of c.args.view.now)) (baselines_text (view_of c.args.view.now)) c.in_default.ensures.written c.print_baselines.ensures.written
+returns-clause-written g c =
+    written_then _ _ _ c.print_baselines.result (heap_text (view_of c.args.view.now))
+    (baselines_text (view_of c.args.view.now)) c.in_default.ensures.written c.print_baselines.ensures.written

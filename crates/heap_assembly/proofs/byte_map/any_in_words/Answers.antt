@@ -5,7 +5,8 @@ use Rattle.heap_assembly.proofs.byte_map.any_in_words.Goals as goal
 
 pub returns-then-words-word-ne0 : goal.returns-then-words-word-ne0
 returns-then-words-word-ne0 c =
-    sym (word_seen c.args.words.now c.loop-word.word c.args.first c.args.last c.if-words-word-ne0.true (omega (arith, c.type_inv.words c.loop-word.word)) (omega arith) (omega arith))
+    sym (word_seen c.args.words.now c.loop-word.word c.args.first c.args.last c.if-words-word-ne0.true
+    (omega (arith, c.type_inv.words c.loop-word.word)) (omega arith) (omega arith))
 
 pub loop-word-preserved : goal.loop-word-preserved
 loop-word-preserved c =

@@ -7,4 +7,6 @@ returns c =
     let n = c.div_ceil.result in
     let words = c.args.words.now in
     let long : n ≤ length words = omega arith in
-    rw (c.fill.ensures.after (λ y same. same)) (none_after_zeros words n (length (take n words)) c.args.to long (length-take-le n words long) (omega arith) c.requires.ends)
+    rw (c.fill.ensures.after (λ y same. same))
+    (none_after_zeros words n (length (take n words)) c.args.to long (length-take-le n words long) (omega arith)
+    c.requires.ends)

@@ -8,4 +8,6 @@ returns c =
     let count = c.args.last - c.args.first in
     let rest = drop c.args.first words in
     let room : count ≤ length rest = omega (arith, length-drop c.args.first words) in
-    rw (c.fill.ensures.after (λ y same. same)) (marks_filled words c.args.first c.args.last count (length (take count rest)) (omega arith) (omega arith) (omega arith) (length-take-le count rest room))
+    rw (c.fill.ensures.after (λ y same. same))
+    (marks_filled words c.args.first c.args.last count (length (take count rest)) (omega arith) (omega arith)
+    (omega arith) (length-take-le count rest room))

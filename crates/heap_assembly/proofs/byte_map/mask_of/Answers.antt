@@ -4,7 +4,8 @@ use Rattle.heap_assembly.proofs.byte_map.mask_of.Goals as goal
 
 pub returns-clause-inside : goal.returns-clause-inside
 returns-clause-inside c =
-    λ i word from to. mask_inside c.saturating_sub-low.result c.min-high.result i (omega arith) (omega arith) (omega arith)
+    λ i word from to. mask_inside c.saturating_sub-low.result c.min-high.result i (omega arith)
+    (omega arith) (omega arith)
 
 pub returns-clause-below : goal.returns-clause-below
 returns-clause-below c =

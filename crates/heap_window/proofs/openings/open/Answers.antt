@@ -11,7 +11,8 @@ returns-clause-opens c =
     let before = c.start.new.self in
     let after = c.take_in-answer.new.heap in
     let fits : length window.items ≤ window.capacity = omega arith in
-    let is = pushed window c.free_heap-heap.new.live c.push_back.new.self after c.free_heap-heap.ensures.live c.push_back.ensures.items c.requires.some fits in
+    let is = pushed window c.free_heap-heap.new.live c.push_back.new.self after c.free_heap-heap.ensures.live
+    c.push_back.ensures.items c.requires.some fits in
     let place =
     c.len.ensures.len
     ∙ ap (λ (b : Buffer LiveState). length b.items) c.free_heap-heap.ensures.live
@@ -23,7 +24,8 @@ returns-clause-opens c =
       empty = c.start.ensures.stands;
       counter = c.start.ensures.counter ∙ c.counter.ensures.value;
       is = is;
-      takes = subst (λ n. TakesIn before n c.args.packet.now after c.take_in-answer.result) place c.take_in-answer.ensures;
+      takes = subst (λ n. TakesIn before n c.args.packet.now after c.take_in-answer.result) place
+          c.take_in-answer.ensures;
       opened = refl;
       evicted = c.leaving-evicted.ensures;
     }
@@ -33,7 +35,9 @@ returns-clause-limits c = λ limit kept spares.
     let window = c.args.live.now in
     let after = c.take_in-answer.new.heap in
     let fits : length window.items ≤ window.capacity = omega arith in
-    let is = pushed window c.free_heap-heap.new.live c.push_back.new.self after c.free_heap-heap.ensures.live c.push_back.ensures.items c.requires.some fits in
+    let is = pushed window c.free_heap-heap.new.live c.push_back.new.self after c.free_heap-heap.ensures.live
+    c.push_back.ensures.items c.requires.some fits in
     let same = c.take_in-answer.ensures.limit ∙ c.start.ensures.limit in
     subst (All (λ (e : LiveState). e.limit ≡ limit)) (sym is)
-    (all_of_limit limit window.capacity window.items c.args.spare.now.items c.free_heap-heap.result after kept spares c.free_heap-heap.ensures.from same)
+    (all_of_limit limit window.capacity window.items c.args.spare.now.items c.free_heap-heap.result after kept spares
+    c.free_heap-heap.ensures.from same)

@@ -5,4 +5,5 @@ use Rattle.spead_types.proofs.entries.read_shape.Goals as goal
 
 pub push-requires : goal.push-requires
 push-requires c =
-    room_for c.loop-dim.shape c.loop-dim.dim-iterator c.next.new.self (shape_of c.args.bytes.now) c.in-Some.dim c.loop-dim.invariant c.in-Some.ensures.steps (omega (arith, length-shape_of c.args.bytes.now))
+    room_for c.loop-dim.shape c.loop-dim.dim-iterator c.next.new.self (shape_of c.args.bytes.now) c.in-Some.dim
+    c.loop-dim.invariant c.in-Some.ensures.steps (omega (arith, length-shape_of c.args.bytes.now))

@@ -8,5 +8,8 @@ use Rattle.spead_types.proofs.items.stands_by.Goals as goal
 pub returns : goal.returns
 returns c =
     any_from_yields_List (are_same c.args.pointer.now) _ _ c.any.result c.any.ensures.ran
-    (YieldsList-from_take (c.args.place + 1) (YieldsList-at c.take.ensures.source (YieldsList-from_first (λ x. x) (λ s. s) c.args.packet.now.pointers c.pointers.ensures.value)) c.take.ensures.count)
+    (YieldsList-from_take (c.args.place + 1)
+    (YieldsList-at c.take.ensures.source
+    (YieldsList-from_first (λ x. x) (λ s. s) c.args.packet.now.pointers c.pointers.ensures.value))
+    c.take.ensures.count)
     (λ x b q k. search (rules, tests))

@@ -25,8 +25,12 @@ read_packet-requires-clause-few c =
 
 pub returns-clause-spelled : goal.returns-clause-spelled
 returns-clause-spelled c =
-    spelled c.args.bytes.now c.read_packet.result (read_of _ _ _ _ c.new.result c.read_packet.result c.in_ok-count.ensures.found c.in_ok-count.ensures.count c.split_at.ensures.back c.split_at-2.ensures.back c.new.ensures c.read_packet.ensures)
+    spelled c.args.bytes.now c.read_packet.result
+    (read_of _ _ _ _ c.new.result c.read_packet.result c.in_ok-count.ensures.found c.in_ok-count.ensures.count
+    c.split_at.ensures.back c.split_at-2.ensures.back c.new.ensures c.read_packet.ensures)
 
 pub returns-clause-only : goal.returns-clause-only
 returns-clause-only c = λ p s.
-    only c.args.bytes.now c.read_packet.result p (read_of _ _ _ _ c.new.result c.read_packet.result c.in_ok-count.ensures.found c.in_ok-count.ensures.count c.split_at.ensures.back c.split_at-2.ensures.back c.new.ensures c.read_packet.ensures) s
+    only c.args.bytes.now c.read_packet.result p
+    (read_of _ _ _ _ c.new.result c.read_packet.result c.in_ok-count.ensures.found c.in_ok-count.ensures.count
+    c.split_at.ensures.back c.split_at-2.ensures.back c.new.ensures c.read_packet.ensures) s

@@ -27,10 +27,27 @@ returns c =
     let joined = length-append (special_pointers head.counter head.size head.offset (length payload)) pointers in
     let room = c.requires.room in
     let whole : c.put.result ≡ encoded_len head pointers payload
-    = omega (arith, joined, c.put_header-at.ensures.place, c.put_special-at.ensures.place, c.put_pointers-at.ensures.place, c.put.ensures.place) in
-    let written = packet_puts c.args.out.now c.put_header-at.new.out c.put_special-at.new.out c.put_pointers-at.new.out c.put.new.out
-    c.put_header-at.result c.put_special-at.result c.put_pointers-at.result c.put.result c.if-is_some.special head pointers payload
-    many c.put_header-at.ensures.bytes c.put_special-at.ensures.bytes c.put_pointers-at.ensures.bytes c.put.ensures.bytes
-    c.put_header-at.ensures.place c.put_special-at.ensures.place c.put_pointers-at.ensures.place c.put.ensures.place (omega (arith, whole, room)) in
+    = omega (
+      arith,
+      joined,
+      c.put_header-at.ensures.place,
+      c.put_special-at.ensures.place,
+      c.put_pointers-at.ensures.place,
+      c.put.ensures.place,
+    ) in
+    let written = packet_puts c.args.out.now c.put_header-at.new.out c.put_special-at.new.out
+    c.put_pointers-at.new.out c.put.new.out
+    c.put_header-at.result c.put_special-at.result c.put_pointers-at.result c.put.result c.if-is_some.special head
+    pointers payload
+    many c.put_header-at.ensures.bytes c.put_special-at.ensures.bytes c.put_pointers-at.ensures.bytes
+    c.put.ensures.bytes
+    c.put_header-at.ensures.place c.put_special-at.ensures.place c.put_pointers-at.ensures.place c.put.ensures.place
+    (omega (arith, whole, room)) in
     let back = read_back _ head pointers payload c.requires.widths c.requires.few written.front in
-    record { length = whole; bytes = written.front; rest = written.rest; written = Spells-packet_in _ _ back; read_back = back }
+    record {
+      length = whole;
+      bytes = written.front;
+      rest = written.rest;
+      written = Spells-packet_in _ _ back;
+      read_back = back;
+    }

@@ -20,7 +20,9 @@ add_products-requires-clause-products c =
     are_small_more _ (c.args.plan.now.spectra * 2 ^ 15) (2 ^ 40) (omega arith) c.channel_products-sum.ensures.are_small
 
 pub loop-channel-preserved : goal.loop-channel-preserved
-loop-channel-preserved c = cells_more _ _ _ _ _ _ _ _ c.loop-channel.invariant (omega arith) c.requires.room c.channel_products-sum.ensures c.add_products.ensures
+loop-channel-preserved c =
+    cells_more _ _ _ _ _ _ _ _ c.loop-channel.invariant (omega arith) c.requires.room c.channel_products-sum.ensures
+    c.add_products.ensures
 
 pub returns-clause-value : goal.returns-clause-value
 returns-clause-value c = cells_all _ _ _ _ _ _ c.loop-channel.invariant (omega arith) c.requires.room

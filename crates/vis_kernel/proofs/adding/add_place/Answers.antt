@@ -9,8 +9,10 @@ returns-in_default-clause-value c =
     let x = option_map (λ s. s.now) c.args.x in
     let y = option_map (λ s. s.now) c.args.y in
     elim c.in_default.branch [
-      | in_default-via-in-Some+in_default w ↦ nothing_added c.args.plan.now _ _ c.args.out.now (each_second c.args.plan.now x y (ap (option_map (λ s. s.now)) w.in_default.is-1)) c.requires.room
-      | in_default-via-in_default w ↦ nothing_added c.args.plan.now _ _ c.args.out.now (each_first c.args.plan.now x y (ap (option_map (λ s. s.now)) w.in_default.is-0)) c.requires.room
+      | in_default-via-in-Some+in_default w ↦ nothing_added c.args.plan.now _ _ c.args.out.now
+          (each_second c.args.plan.now x y (ap (option_map (λ s. s.now)) w.in_default.is-1)) c.requires.room
+      | in_default-via-in_default w ↦ nothing_added c.args.plan.now _ _ c.args.out.now
+          (each_first c.args.plan.now x y (ap (option_map (λ s. s.now)) w.in_default.is-0)) c.requires.room
     ]
 
 pub returns-in_default-clause-small : goal.returns-in_default-clause-small
@@ -18,6 +20,8 @@ returns-in_default-clause-small c =
     let x = option_map (λ s. s.now) c.args.x in
     let y = option_map (λ s. s.now) c.args.y in
     elim c.in_default.branch [
-      | in_default-via-in-Some+in_default w ↦ nothing_small c.args.plan.now _ _ _ (each_second c.args.plan.now x y (ap (option_map (λ s. s.now)) w.in_default.is-1))
-      | in_default-via-in_default w ↦ nothing_small c.args.plan.now _ _ _ (each_first c.args.plan.now x y (ap (option_map (λ s. s.now)) w.in_default.is-0))
+      | in_default-via-in-Some+in_default w ↦ nothing_small c.args.plan.now _ _ _
+          (each_second c.args.plan.now x y (ap (option_map (λ s. s.now)) w.in_default.is-1))
+      | in_default-via-in_default w ↦ nothing_small c.args.plan.now _ _ _
+          (each_first c.args.plan.now x y (ap (option_map (λ s. s.now)) w.in_default.is-0))
     ]

@@ -12,4 +12,5 @@ add_eight-requires-clause-sums c =
 pub returns : goal.returns
 returns c =
     let n : c.args.at + 8 - c.args.at ≡ 8 = omega arith in
-    ap₂ (λ k p. put_mid c.args.at k c.args.out.now p) n (c.add_eight.ensures ∙ ap (λ k. add_sums (take k (drop c.args.at c.args.out.now)) (eight_parts c.args.sum)) n)
+    ap₂ (λ k p. put_mid c.args.at k c.args.out.now p) n
+    (c.add_eight.ensures ∙ ap (λ k. add_sums (take k (drop c.args.at c.args.out.now)) (eight_parts c.args.sum)) n)

@@ -12,4 +12,6 @@ add_two-requires-clause-sums c =
 pub returns : goal.returns
 returns c =
     let n : c.args.at + 2 - c.args.at ≡ 2 = omega arith in
-    ap₂ (λ k p. put_mid c.args.at k c.args.out.now p) n (c.add_two.ensures ∙ ap (λ k. add_sums (take k (drop c.args.at c.args.out.now)) (two_parts (complex_of c.args.value))) n)
+    ap₂ (λ k p. put_mid c.args.at k c.args.out.now p) n
+    (c.add_two.ensures ∙ ap
+    (λ k. add_sums (take k (drop c.args.at c.args.out.now)) (two_parts (complex_of c.args.value))) n)

@@ -9,7 +9,9 @@ pub loop-t-init : goal.loop-t-init
 loop-t-init c = multiplied_none _ _ _ _ _ _ c.requires.room
 
 pub add_place-requires-clause-room : goal.add_place-requires-clause-room
-add_place-requires-clause-room c = same_length _ _ _ _ _ _ _ _ _ c.loop-t.invariant c.requires.room ∙ ap (λ p. 8 * p.channels) (sym c.plan.ensures.value)
+add_place-requires-clause-room c =
+    same_length _ _ _ _ _ _ _ _ _ c.loop-t.invariant c.requires.room ∙ ap (λ p. 8 * p.channels)
+    (sym c.plan.ensures.value)
 
 pub add_place-requires-clause-sums : goal.add_place-requires-clause-sums
 add_place-requires-clause-sums c =
@@ -39,7 +41,8 @@ loop-t-preserved c =
     let long = c.plan.ensures.as_many in
     let also = c.plan-plan.ensures.as_many in
     let same = ap {B = ℕ} (λ p. p.heaps) c.requires.plan in
-    multiplied_more c.args.a.now.plan _ _ _ _ _ _ _ _ _ _ x y c.loop-t.invariant (omega arith) (omega arith) (omega arith) c.heap.ensures.value c.heap-in-loop-t.ensures.value
+    multiplied_more c.args.a.now.plan _ _ _ _ _ _ _ _ _ _ x y c.loop-t.invariant (omega arith) (omega arith)
+    (omega arith) c.heap.ensures.value c.heap-in-loop-t.ensures.value
     (c.add_place.ensures.value ∙ ap (λ p. add_sums c.loop-t.out (cell_values p x y)) e)
     (subst (λ p. AreUpTo (cell_values p x y) (p.spectra * 2 ^ 15)) e c.add_place.ensures.small)
     c.add_place.ensures.missing

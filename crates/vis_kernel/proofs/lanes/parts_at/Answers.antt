@@ -16,10 +16,14 @@ returns-clause-value c =
     let g = c.part_at-6.ensures in
     let h = c.part_at-7.ensures in
     let i = c.part_at-8.ensures in
-    eight_same (widened _ _ a.fits a.small (a.value ∙ ap at (omega arith))) (widened _ _ b.fits b.small (b.value ∙ ap at (omega arith)))
-    (widened _ _ d.fits d.small (d.value ∙ ap at (omega arith))) (widened _ _ e.fits e.small (e.value ∙ ap at (omega arith)))
-    (widened _ _ f.fits f.small (f.value ∙ ap at (omega arith))) (widened _ _ g.fits g.small (g.value ∙ ap at (omega arith)))
-    (widened _ _ h.fits h.small (h.value ∙ ap at (omega arith))) (widened _ _ i.fits i.small (i.value ∙ ap at (omega arith)))
+    eight_same (widened _ _ a.fits a.small (a.value ∙ ap at (omega arith)))
+    (widened _ _ b.fits b.small (b.value ∙ ap at (omega arith)))
+    (widened _ _ d.fits d.small (d.value ∙ ap at (omega arith)))
+    (widened _ _ e.fits e.small (e.value ∙ ap at (omega arith)))
+    (widened _ _ f.fits f.small (f.value ∙ ap at (omega arith)))
+    (widened _ _ g.fits g.small (g.value ∙ ap at (omega arith)))
+    (widened _ _ h.fits h.small (h.value ∙ ap at (omega arith)))
+    (widened _ _ i.fits i.small (i.value ∙ ap at (omega arith)))
 
 pub returns-clause-parts : goal.returns-clause-parts
 returns-clause-parts c =
@@ -32,6 +36,18 @@ returns-clause-parts c =
     let h = c.part_at-7.ensures in
     let i = c.part_at-8.ensures in
     subst HoldsParts
-    (sym (eight_same (widened _ _ a.fits a.small refl) (widened _ _ b.fits b.small refl) (widened _ _ d.fits d.small refl) (widened _ _ e.fits e.small refl)
-    (widened _ _ f.fits f.small refl) (widened _ _ g.fits g.small refl) (widened _ _ h.fits h.small refl) (widened _ _ i.fits i.small refl)))
-    (record { eight = refl; first = a.small; second = b.small; third = d.small; fourth = e.small; fifth = f.small; sixth = g.small; seventh = h.small; eighth = i.small })
+    (sym (eight_same (widened _ _ a.fits a.small refl) (widened _ _ b.fits b.small refl)
+    (widened _ _ d.fits d.small refl) (widened _ _ e.fits e.small refl)
+    (widened _ _ f.fits f.small refl) (widened _ _ g.fits g.small refl) (widened _ _ h.fits h.small refl)
+    (widened _ _ i.fits i.small refl)))
+    (record {
+      eight = refl;
+      first = a.small;
+      second = b.small;
+      third = d.small;
+      fourth = e.small;
+      fifth = f.small;
+      sixth = g.small;
+      seventh = h.small;
+      eighth = i.small;
+    })

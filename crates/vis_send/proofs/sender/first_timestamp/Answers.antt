@@ -14,14 +14,16 @@ overflow_mul-result c =
 pub overflow_mul-result-2 : goal.overflow_mul-result-2
 overflow_mul-result-2 c =
     let plan = c.args.plan.now in
-    let fits = timestamp_fits plan.start c.args.number plan.heaps plan.step plan.accumulations (omega arith) c.requires.fits.joint.end_of_grid in
+    let fits = timestamp_fits plan.start c.args.number plan.heaps plan.step plan.accumulations (omega arith)
+    c.requires.fits.joint.end_of_grid in
     let same = ap (λ h. c.args.number * h * plan.step) c.from.ensures in
     omega arith
 
 pub overflow_add-result : goal.overflow_add-result
 overflow_add-result c =
     let plan = c.args.plan.now in
-    let fits = timestamp_fits plan.start c.args.number plan.heaps plan.step plan.accumulations (omega arith) c.requires.fits.joint.end_of_grid in
+    let fits = timestamp_fits plan.start c.args.number plan.heaps plan.step plan.accumulations (omega arith)
+    c.requires.fits.joint.end_of_grid in
     let same = ap (λ h. c.args.number * h * plan.step) c.from.ensures in
     omega arith
 

@@ -12,8 +12,10 @@ send_heap-requires-clause-heap g c =
 pub returns-clause-sent : goal.returns-clause-sent
 returns-clause-sent g c =
     let K = g.K.PacketSink in
-    let head = head_of c.args.plan.now _ _ _ _ _ c.addressed.ensures c.addressed-2.ensures c.addressed-3.ensures c.new-descriptors.ensures (c.as_slice.ensures.value ∙ c.put_descriptors.ensures) in
-    subst (λ packets. Tallies (K.sent c.args.sink.now) (K.sent c.send_heap.new.sink) c.args.sent.now c.send_heap.new.sent c.send_heap.result packets) head c.send_heap.ensures.sent
+    let head = head_of c.args.plan.now _ _ _ _ _ c.addressed.ensures c.addressed-2.ensures c.addressed-3.ensures
+    c.new-descriptors.ensures (c.as_slice.ensures.value ∙ c.put_descriptors.ensures) in
+    subst (λ packets. Tallies (K.sent c.args.sink.now) (K.sent c.send_heap.new.sink) c.args.sent.now
+    c.send_heap.new.sent c.send_heap.result packets) head c.send_heap.ensures.sent
 
 pub returns-clause-begun : goal.returns-clause-begun
 returns-clause-begun g c = c.send_heap.ensures.begun

@@ -10,7 +10,10 @@ overflow_add-to c =
     omega (arith, same, a, b)
 
 pub loop-k-preserved : goal.loop-k-preserved
-loop-k-preserved c = counts_more c.loop-k.k c.args.to.now c.args.more.now c.loop-k.to _ c.loop-k.invariant (omega arith) c.requires.same refl
+loop-k-preserved c =
+    counts_more c.loop-k.k c.args.to.now c.args.more.now c.loop-k.to _ c.loop-k.invariant (omega arith)
+    c.requires.same refl
 
 pub returns : goal.returns
-returns c = counts_all c.loop-k.k c.args.to.now c.args.more.now c.loop-k.to c.loop-k.invariant (omega arith) c.requires.same
+returns c = counts_all c.loop-k.k c.args.to.now c.args.more.now c.loop-k.to c.loop-k.invariant (omega arith)
+    c.requires.same

@@ -8,7 +8,8 @@ use Rattle.corr_core.proofs.parts.Parts.send.Goals as goal
 pub returns-then-not-next_value-clause-steps : goal.returns-then-not-next_value-clause-steps
 returns-then-not-next_value-clause-steps g c = λ value state h.
     let old = c.args.self.now in
-    let waits = subst (SendsNext value old c.next_value.new.self state) c.if-not-next_value.true (c.next_value.ensures.next value state h) in
+    let waits = subst (SendsNext value old c.next_value.new.self state) c.if-not-next_value.true
+    (c.next_value.ensures.next value state h) in
     record { stands_for = waits.1; gives = record { cannot = inr waits.0; same = refl; same_sent = refl } }
 
 pub returns-in-Ok-clause-steps : goal.returns-in-Ok-clause-steps
@@ -25,8 +26,10 @@ returns-in-Ok-clause-steps g c = λ value state h.
         was = refl;
         can = sending.can;
         appended = λ lists fits.
-            subst (SendsWhole (g.K.PacketSink.sent c.args.sink.now) (g.K.PacketSink.sent c.emit_value.new.sink) (g.E.Emit.tally c.args.emit.now) (g.E.Emit.tally c.emit_value.new.emit))
-            (ap (λ p. sent_together p (g.E.Emit.strings p) next.outgoing.number next.outgoing.out.sums) e.plan ∙ together_is value strings old next state lists h fits sending e.plan number)
+            subst (SendsWhole (g.K.PacketSink.sent c.args.sink.now) (g.K.PacketSink.sent c.emit_value.new.sink)
+            (g.E.Emit.tally c.args.emit.now) (g.E.Emit.tally c.emit_value.new.emit))
+            (ap (λ p. sent_together p (g.E.Emit.strings p) next.outgoing.number next.outgoing.out.sums) e.plan ∙
+            together_is value strings old next state lists h fits sending e.plan number)
             c.in-Ok.ensures.sent;
       };
     }
@@ -45,8 +48,10 @@ returns-in-Err-clause-steps g c = λ value state h.
         was = refl;
         can = sending.can;
         front = λ lists fits.
-            subst (SendsFront (g.K.PacketSink.sent c.args.sink.now) (g.K.PacketSink.sent c.emit_value.new.sink) (g.E.Emit.tally c.args.emit.now) (g.E.Emit.tally c.emit_value.new.emit))
-            (ap (λ p. sent_together p (g.E.Emit.strings p) next.outgoing.number next.outgoing.out.sums) e.plan ∙ together_is value strings old next state lists h fits sending e.plan number)
+            subst (SendsFront (g.K.PacketSink.sent c.args.sink.now) (g.K.PacketSink.sent c.emit_value.new.sink)
+            (g.E.Emit.tally c.args.emit.now) (g.E.Emit.tally c.emit_value.new.emit))
+            (ap (λ p. sent_together p (g.E.Emit.strings p) next.outgoing.number next.outgoing.out.sums) e.plan ∙
+            together_is value strings old next state lists h fits sending e.plan number)
             c.in-Err.ensures.sent;
       };
     }

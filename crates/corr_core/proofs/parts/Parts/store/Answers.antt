@@ -15,4 +15,6 @@ returns-clause-happens g c = λ value state h.
     store_happens value p c.store_result.new.self state w h c.requires.in_range computed c.store_result.ensures
 
 pub returns-clause-ends : goal.returns-clause-ends
-returns-clause-ends g c = same_ends c.args.self.now c.store_result.new.self (ap (λ (k : PartsView). k.feeds) c.store_result.ensures.parts) (ap (λ (k : PartsView). k.plan) c.store_result.ensures.parts)
+returns-clause-ends g c =
+    same_ends c.args.self.now c.store_result.new.self (ap (λ (k : PartsView). k.feeds) c.store_result.ensures.parts)
+    (ap (λ (k : PartsView). k.plan) c.store_result.ensures.parts)

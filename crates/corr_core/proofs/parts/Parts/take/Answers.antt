@@ -13,7 +13,10 @@ returns-clause-happens g c = λ state h.
     let p = c.args.self.now in
     let w = c.args.work in
     let free : (work_in p w).stage ≡ Free = c.if-not-is_free.ensures in
-    take_happens (value_with (g.B.Backend.value c.args.backend.now) p.plan) p c.take_slot.new.self state w c.args.slot c.take_slot.result h c.requires.in_range c.requires.slot free c.take_slot.ensures
+    take_happens (value_with (g.B.Backend.value c.args.backend.now) p.plan) p c.take_slot.new.self state w c.args.slot
+    c.take_slot.result h c.requires.in_range c.requires.slot free c.take_slot.ensures
 
 pub returns-clause-ends : goal.returns-clause-ends
-returns-clause-ends g c = same_ends c.args.self.now c.take_slot.new.self (ap (λ (k : PartsView). k.feeds) c.take_slot.ensures.parts) (ap (λ (k : PartsView). k.plan) c.take_slot.ensures.parts)
+returns-clause-ends g c =
+    same_ends c.args.self.now c.take_slot.new.self (ap (λ (k : PartsView). k.feeds) c.take_slot.ensures.parts)
+    (ap (λ (k : PartsView). k.plan) c.take_slot.ensures.parts)

@@ -9,4 +9,6 @@ pub returns : goal.returns
 returns c =
     let items = group_of (whole_of c.args.self.now) in
     let place = c.args.place in
-    IfSome-from (slice_get items.pointers place) (λ p. option_map (λ x. x.now) c.content_at.result ≡ content items (place, p)) (λ p e. content-at items place _ _ p c.content_at.ensures e)
+    IfSome-from (slice_get items.pointers place)
+    (λ p. option_map (λ x. x.now) c.content_at.result ≡ content items (place, p))
+    (λ p e. content-at items place _ _ p c.content_at.ensures e)

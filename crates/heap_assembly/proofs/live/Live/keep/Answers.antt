@@ -16,4 +16,7 @@ invariant_of-self c =
     let p = c.args.packet.now in
     let words = with_items_is c.self.inside.words c.mark.new.words (omega arith) in
     let bytes = with_items_is c.self.inside.bytes c.put.new.bytes (omega arith) in
-    rw (words, bytes) (sound_after _ p _ c.self.invariant (search rules) (subst (λ e. early_cause e p ≡ None) (sym c.self.view_is) c.requires.early) (subst (λ s. IfSome s (λ size. end_of p ≤ size)) c.size.ensures.value c.size.ensures.within) (search rules) (omega arith))
+    rw (words, bytes) (sound_after _ p _ c.self.invariant (search rules)
+    (subst (λ e. early_cause e p ≡ None) (sym c.self.view_is) c.requires.early)
+    (subst (λ s. IfSome s (λ size. end_of p ≤ size)) c.size.ensures.value c.size.ensures.within) (search rules)
+    (omega arith))

@@ -16,6 +16,8 @@ split_at-requires c =
 
 pub returns-clause-whole : goal.returns-clause-whole
 returns-clause-whole c =
-    λ ms s. subst (λ e. e.whole ≡ true → HeapStandsFor (live_of e) ms → whole_of c.new.result ≡ heap_of e.counter (kept_shown ms)) c.self.view_is
-    (heap_of_whole (state_of c.self.inside) ms (whole_of c.new.result) _ _ _ c.self.invariant c.new.ensures c.as_slice.ensures.value c.split_at.ensures.front c.deref.ensures.value)
+    λ ms s. subst (λ e. e.whole ≡ true → HeapStandsFor (live_of e) ms
+    → whole_of c.new.result ≡ heap_of e.counter (kept_shown ms)) c.self.view_is
+    (heap_of_whole (state_of c.self.inside) ms (whole_of c.new.result) _ _ _ c.self.invariant c.new.ensures
+    c.as_slice.ensures.value c.split_at.ensures.front c.deref.ensures.value)
     c.requires.whole s

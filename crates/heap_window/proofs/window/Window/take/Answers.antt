@@ -16,7 +16,8 @@ returns c =
         λ _. tt,
         elim c.match-step.branch [
           | in-Part w ↦ takes _ _ _ _ _ self _ w.self-is steps (matches_at _ _ _ _ w.in-Part.is w.what-is)
-          | in-Whole w ↦ takes _ _ _ _ _ self _ w.self-is steps (matches_at _ _ _ _ w.in-Whole.is (w.heap.result, w.what-is, w.heap.ensures))
+          | in-Whole w ↦ takes _ _ _ _ _ self _ w.self-is steps
+              (matches_at _ _ _ _ w.in-Whole.is (w.heap.result, w.what-is, w.heap.ensures))
           | in-Stale w ↦ takes _ _ _ _ _ self _ w.self-is steps (matches_at _ _ _ _ w.in-Stale.is w.what-is)
           | in-Dropped w ↦
               let what_is : c.match-step.what ≡ taken.Dropped w.in-Dropped.cause = cc in

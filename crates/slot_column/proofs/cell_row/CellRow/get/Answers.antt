@@ -27,7 +27,9 @@ part-requires c =
 pub returns-clause-value : goal.returns-clause-value
 returns-clause-value c =
     let inside = in_row _ _ _ _ _ c.self.view_is c.requires in
-    ap Some (c.part.ensures.value ∙ ap (λ xs. slice_range xs (c.args.t * c.self.inside.width) (c.args.t * c.self.inside.width + c.self.inside.width)) c.deref.ensures.value)
+    ap Some (c.part.ensures.value ∙ ap
+    (λ xs. slice_range xs (c.args.t * c.self.inside.width) (c.args.t * c.self.inside.width + c.self.inside.width))
+    c.deref.ensures.value)
     ∙ cell_marked _ _ _ _ _ _ true c.self.view_is inside c.index.ensures c.if-not-index.false
 
 pub returns-clause-whole : goal.returns-clause-whole

@@ -28,6 +28,7 @@ returns-clause-cells c =
     let wide : c.self.inside.width ≡ c.args.self.now.width = ap {B = ℕ} (λ r. r.width) c.self.view_is in
     let at = c.args.t * c.self.inside.width in
     let s = c.args.samples.now in
-    row_put_shown _ _ c.put_bytes.new.bytes _ _ _ _ _ (ap (λ r. r.cells) c.self.view_is) inside c.self.invariant.room (c.requires.whole ∙ sym wide)
+    row_put_shown _ _ c.put_bytes.new.bytes _ _ _ _ _ (ap (λ r. r.cells) c.self.view_is) inside c.self.invariant.room
+    (c.requires.whole ∙ sym wide)
     (c.put_bytes.ensures ∙ ap (λ xs. take at xs ++ (s ++ drop (at + length s) xs)) c.deref_mut.ensures.value)
     (with_items_is c.self.inside.bytes c.put_bytes.new.bytes (omega arith))

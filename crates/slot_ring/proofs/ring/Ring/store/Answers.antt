@@ -3,8 +3,10 @@ use Rattle.slot_ring.proofs.ring.Ring.store.Goals as goal
 
 pub invariant_of-self : goal.invariant_of-self
 invariant_of-self g c =
-    kept_ring _ c.number.result c.from.result _ _ _ c.self.invariant c.from.ensures c.index_mut-slot.ensures.value (store_plan _ _ _ _ _ c.store.ensures)
+    kept_ring _ c.number.result c.from.result _ _ _ c.self.invariant c.from.ensures c.index_mut-slot.ensures.value
+    (store_plan _ _ _ _ _ c.store.ensures)
 
 pub returns : goal.returns
 returns g c =
-    at_slot _ _ _ c.args.work.now.number c.number.result c.from.result _ _ _ c.self.view_is c.self.invariant c.number.ensures c.from.ensures c.index_mut-slot.ensures.value c.store.ensures
+    at_slot _ _ _ c.args.work.now.number c.number.result c.from.result _ _ _ c.self.view_is c.self.invariant
+    c.number.ensures c.from.ensures c.index_mut-slot.ensures.value c.store.ensures

@@ -12,8 +12,10 @@ returns-then-is_filling g c =
     let kind = c.self.inside.kind in
     elim c.if-is.branch [
       | then-is w ↦
-          let filling = subst (λ b. MatchBool b (kind ≡ Filling) (kind ≢ Filling)) (sym w.value-is ∙ c.if-is_filling.true) w.is_filling.ensures in
-          take_matched _ _ c.held-held.result c.args.plan.now _ refl c.self.view_is c.held-held.ensures c.self.invariant.held w.if-is.ensures filling
+          let filling = subst (λ b. MatchBool b (kind ≡ Filling) (kind ≢ Filling))
+          (sym w.value-is ∙ c.if-is_filling.true) w.is_filling.ensures in
+          take_matched _ _ c.held-held.result c.args.plan.now _ refl c.self.view_is c.held-held.ensures
+          c.self.invariant.held w.if-is.ensures filling
       | else-is w ↦ absurd (false≢true (sym w.if-is.false ∙ sym w.value-is ∙ c.if-is_filling.true))
     ]
 
@@ -23,7 +25,9 @@ returns-else-is_filling g c =
     let accepts = AcceptsTake (held_of c.args.self.now) c.args.plan.now in
     elim c.if-is.branch [
       | then-is w ↦
-          let other = subst (λ b. MatchBool b (kind ≡ Filling) (kind ≢ Filling)) (sym w.value-is ∙ c.if-is_filling.false) w.is_filling.ensures in
+          let other = subst (λ b. MatchBool b (kind ≡ Filling) (kind ≢ Filling))
+          (sym w.value-is ∙ c.if-is_filling.false) w.is_filling.ensures in
           take_refused accepts _ _ c.args.plan.now _ c.self.view_is c.if-is_filling.false (inr other)
-      | else-is w ↦ take_refused accepts _ _ c.args.plan.now _ c.self.view_is c.if-is_filling.false (inl w.if-is.ensures)
+      | else-is w ↦ take_refused accepts _ _ c.args.plan.now _ c.self.view_is c.if-is_filling.false
+          (inl w.if-is.ensures)
     ]

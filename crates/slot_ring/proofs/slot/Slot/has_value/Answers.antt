@@ -12,7 +12,8 @@ returns-then-self-number g c =
     elim c.if-is.branch [
       | then-is w ↦
           let same = eqb-true _ _ (sym w.value-is ∙ c.if-self-number.true) in
-          matched Done (λ v. AcceptsSend (held_of v) c.args.plan.now c.args.number) _ _ c.args.plan.now c.args.number _ c.self.view_is
+          matched Done (λ v. AcceptsSend (held_of v) c.args.plan.now c.args.number) _ _ c.args.plan.now c.args.number _
+          c.self.view_is
           (λ right. record { same_plan = w.if-is.ensures; same_number = same; done = right }) c.is_done.ensures
       | else-is w ↦ absurd (false≢true (sym w.if-is.false ∙ sym w.value-is ∙ c.if-self-number.true))
     ]
@@ -23,5 +24,6 @@ returns-else-self-number g c =
     elim c.if-is.branch [
       | then-is w ↦ refused Done accepts _ _ c.args.plan.now c.args.number _ c.self.view_is c.if-self-number.false
           (inr (eqb-false _ _ (sym w.value-is ∙ c.if-self-number.false)))
-      | else-is w ↦ refused Done accepts _ _ c.args.plan.now c.args.number _ c.self.view_is c.if-self-number.false (inl w.if-is.ensures)
+      | else-is w ↦ refused Done accepts _ _ c.args.plan.now c.args.number _ c.self.view_is c.if-self-number.false
+          (inl w.if-is.ensures)
     ]

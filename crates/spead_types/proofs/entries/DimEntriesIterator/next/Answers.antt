@@ -5,7 +5,8 @@ use Rattle.spead_types.proofs.entries.DimEntriesIterator.next.Goals as goal
 
 pub returns-clause-steps : goal.returns-clause-steps
 returns-clause-steps c =
-    first_dim c.self.inside.rest.now c.split_at.result.0.now c.split_at.result.1.now c.args.self.now c.read_dim.result c.self.view_is c.if-self-lt-DIM_BYTES.false c.split_at.ensures.front c.split_at.ensures.back c.read_dim.ensures
+    first_dim c.self.inside.rest.now c.split_at.result.0.now c.split_at.result.1.now c.args.self.now c.read_dim.result
+    c.self.view_is c.if-self-lt-DIM_BYTES.false c.split_at.ensures.front c.split_at.ensures.back c.read_dim.ensures
 
 pub returns-clause-goes : goal.returns-clause-goes
 returns-clause-goes c =

@@ -7,7 +7,9 @@ use Rattle.spead_wire.proofs.pointers.PointersIterator.next.Goals as goal
 pub returns-clause-steps : goal.returns-clause-steps
 returns-clause-steps c =
     let ran = c.find.ensures.ran in
-    rw (← c.self.view_is) (first_passing _ is_own (λ f x b q k. search (rules, tests)) ran.0 c.self.inside.words ran.2.0 c.find.new.self c.find.result _ ran.1 ran.2.1 ran.2.2 ran.3 ran.4)
+    rw (← c.self.view_is)
+    (first_passing _ is_own (λ f x b q k. search (rules, tests)) ran.0 c.self.inside.words ran.2.0 c.find.new.self
+    c.find.result _ ran.1 ran.2.1 ran.2.2 ran.3 ran.4)
 
 pub returns-clause-goes : goal.returns-clause-goes
 returns-clause-goes c =

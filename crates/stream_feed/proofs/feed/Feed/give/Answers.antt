@@ -8,7 +8,8 @@ pub give-requires-clause-told : goal.give-requires-clause-told
 give-requires-clause-told g c = λ named d.
     told_column g.O.Observation.list c.self.inside.stream g.O.Observation.plan d (c.self.invariant named)
     (ap (λ (k : FeedState). is_some (due_of k)) c.self.view_is ∙ c.requires.due)
-    (ap (λ (k : FeedState). k.columns.plan) c.self.view_is ∙ c.requires.same_plan named) c.plan-plan.ensures.as_many c.plan-plan.ensures.some
+    (ap (λ (k : FeedState). k.columns.plan) c.self.view_is ∙ c.requires.same_plan named) c.plan-plan.ensures.as_many
+    c.plan-plan.ensures.some
 
 pub returns-clause-closed : goal.returns-clause-closed
 returns-clause-closed g c = ap (λ (h : Hand). h.is_closed) (c.give.ensures.hand c.args.hand.now.column)
