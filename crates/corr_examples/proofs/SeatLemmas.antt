@@ -1,5 +1,5 @@
 -- Seats that are added one by one, behind those of the two antennas.
-use Rattle.std.proofs.Common.{◌≡◌, ℕ, ◌+◌, ◌<◌, ◌≤◌, List, [], ◌∷◌, ◌++◌, length, get_or, All, None, sym, subst, arith, length-append}
+use Rattle.std.proofs.Common.{◌≡◌, ℕ, zero, suc, ◌+◌, ◌<◌, ◌≤◌, List, [], ◌∷◌, ◌++◌, length, get_or, All, None, sym, subst, arith, length-append}
 use Rattle.std.proofs.lemmas.Grind.{common_steps}
 use Rattle.std.proofs.lemmas.List.{get_or_append_left}
 use Rattle.corr_site.specs.Memory.{Source}
@@ -28,4 +28,23 @@ are_new_push source seats x h none = record {
   two = let two = h.two in omega (arith, two, length-append seats (x ∷ []));
   give = give_push source seats x h;
   none_begun = all_push (λ s. (source s).at ≡ None) seats x h.none_begun none;
+}
+
+give_two : {T : Type 0} (source : T → Source) (x y : T) → WillGive (source x) (literal_list 0)
+    → WillGive (source y) (literal_list 1) → (a : ℕ) (d : T) → a < 2
+    → WillGive (source (get_or (x ∷ y ∷ []) a d)) (literal_list a)
+give_two source x y h k zero d low = h
+give_two source x y h k (suc zero) d low = k
+give_two source x y h k (suc (suc a)) d low = absurd (omega arith)
+
+all_two : {T : Type 0} (P : T → Type 0) (x y : T) → P x → P y → All P (x ∷ y ∷ [])
+all_two P x y h k = grind (arith, common_steps)
+
+-- those of the two antennas
+pub are_new_two : {T : Type 0} (source : T → Source) (x y : T) → WillGive (source x) (literal_list 0)
+    → WillGive (source y) (literal_list 1) → AreNew source (x ∷ y ∷ [])
+are_new_two source x y h k = record {
+  two = omega arith;
+  give = give_two source x y h k;
+  none_begun = all_two (λ s. (source s).at ≡ None) x y h.not_begun k.not_begun;
 }

@@ -24,10 +24,14 @@ mod packets;
 #[cfg(test)]
 mod plain_tests;
 #[cfg(test)]
+mod schedule_tests;
+#[cfg(test)]
 mod thread_tests;
 #[cfg(test)]
 mod tool_tests;
 #[cfg(test)]
 mod trial_tests;
+#[cfg(test)]
+mod watched;
 #[cfg(test)]
 mod words_tests;

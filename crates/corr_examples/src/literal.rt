@@ -3,6 +3,7 @@
 ghost use Rattle.std.specs.Prelude.{◌≡◌, ◌<◌, ℕ, true, None, All, IfOk, map, slice_index_or, string_bytes};
 ghost use Rattle.corr_examples.specs.Literals.{SaysPlan, WillGive, literal_list, literal_plan, literal_words};
 
+use crate::watched::{Marks, Seen, Watched};
 use corr_model::{Observation, Plan};
 use corr_settings::read;
 use corr_site::ListSource;
@@ -56,17 +57,41 @@ fn other_source<O: Observation>(alloc: Global) -> Result<ListSource<O>, Fail>
     Ok(ListSource::new(list, Vec::new(alloc), false))
 }
 
-/// The seats of the two antennas, and 62 more.
-pub fn all_seats<O: Observation>(alloc: Global) -> Result<Vec<Seat<O, ListSource<O>>>, Fail>
-    ensures give { IfOk result (λ v. (a : ℕ) (d : _) → a < 2
-        → WillGive (slice_index_or v.items a d).source (literal_list a)) }
-    ensures none_begun { IfOk result (λ v. All (λ s. s.source.at ≡ None) v.items) }
+/// A source in memory that is watched, with room for its receiver.
+pub type WatchedSeat<'a, O> = Seat<O, Watched<'a, ListSource<O>>>;
+
+// The seat of a source.
+fn seat_of<'a, O: Observation>(source: ListSource<O>, seen: &'a Seen) -> WatchedSeat<'a, O>
+    ensures { result.source.source ≡ source }
 {
-    let first = Seat::new(first_source(alloc)?);
-    let other = Seat::new(other_source(alloc)?);
+    Seat::new(Watched::new(source, seen))
+}
+
+// A seat that no antenna has.
+fn spare_seat<'a, O: Observation>(alloc: Global, seen: &'a Seen) -> WatchedSeat<'a, O>
+    ensures { result.source.source.at ≡ None }
+{
+    seat_of(
+        ListSource::new(Vec::new(alloc), Vec::new(alloc), false),
+        seen,
+    )
+}
+
+/// The seats of the two antennas, and 62 more. What is seen of their sources is noted in `marks`.
+pub fn all_seats<'a, O: Observation>(
+    alloc: Global,
+    marks: &'a Marks,
+) -> Result<Vec<WatchedSeat<'a, O>>, Fail>
+    ensures give { IfOk result (λ v. (a : ℕ) (d : _) → a < 2
+        → WillGive (slice_index_or v.items a d).source.source (literal_list a)) }
+    ensures none_begun { IfOk result (λ v. All (λ s. s.source.source.at ≡ None) v.items) }
+{
+    let [first, other, spare] = &marks.sources;
+    let first = seat_of(first_source(alloc)?, first);
+    let other = seat_of(other_source(alloc)?, other);
     let mut seats = vec![in alloc; first, other]?;
     for _ in 2..64 {
-        seats.push(Seat::new(ListSource::new(Vec::new(alloc), Vec::new(alloc), false)))?;
+        seats.push(spare_seat(alloc, spare))?;
     }
     Ok(seats)
 }

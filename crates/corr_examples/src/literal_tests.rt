@@ -7,8 +7,9 @@ ghost use Rattle.corr_examples.specs.Literals.{SaysPlan, literal_plan};
 use crate::correlate_tests::SETTINGS;
 use crate::literal::{Literal, all_seats, says_plan, words};
 use crate::output::{ONE_HEAP_LOST, one_accumulation};
+use crate::watched::Marks;
 use corr_cli::run;
-use corr_site::{ListPrint, ListSink, ListText, NoGate};
+use corr_site::{Gate, ListPrint, ListSink, ListText, NoGate};
 use std::alloc::Global;
 use std::sync::Wait;
 use std::test::Fail;
@@ -16,10 +17,12 @@ use std::thread::Threads;
 
 // The status of a run in threads over the lists of the observation. At 0 just these datagrams were
 // sent, whatever order the threads took their steps in.
-fn status_of<const WORKERS: u32, R: Threads + Wait + Sync>(
+fn status_of<const WORKERS: u32, G: Gate + Sync, R: Threads + Wait + Sync>(
     rt: &R,
     alloc: Global,
     text: &[u8],
+    marks: &Marks,
+    gate: &G,
     sink: &mut ListSink,
 ) -> Result<u8, Fail>
     requires plan { SaysPlan text.now (literal_plan WORKERS) }
@@ -30,7 +33,7 @@ fn status_of<const WORKERS: u32, R: Threads + Wait + Sync>(
 {
     let words = words(alloc)?;
     let mut settings = ListText::new(text.to_vec(alloc)?, Vec::new(alloc), false);
-    let mut seats = all_seats::<Literal<WORKERS>>(alloc)?;
+    let mut seats = all_seats::<Literal<WORKERS>>(alloc, marks)?;
     if seats.len() != 64 {
         return Err(Fail::from("not 64 seats"));
     }
@@ -43,23 +46,26 @@ fn status_of<const WORKERS: u32, R: Threads + Wait + Sync>(
         seats.as_mut_slice(),
         sink,
         &mut print,
-        &NoGate,
+        gate,
     );
     Ok(status.code)
 }
 
-// Whether a run with so many workers sends the datagrams that were worked out by hand.
-fn is_right<const WORKERS: u32, R: Threads + Wait + Sync>(
+/// Whether a run with so many workers, which the gate may hold up, sends the datagrams that were
+/// worked out by hand.
+pub fn is_right<const WORKERS: u32, G: Gate + Sync, R: Threads + Wait + Sync>(
     rt: &R,
     alloc: Global,
     workers: &str,
+    marks: &Marks,
+    gate: &G,
 ) -> Result<bool, Fail> {
     let text = SETTINGS.replace(alloc, "workers = 0", workers)?;
     if !says_plan(alloc, text.as_bytes(), WORKERS)? {
         return Ok(false);
     }
     let mut sink = ListSink::new(alloc, 8, 4096, Vec::new(alloc), false)?;
-    let code = status_of::<WORKERS, R>(rt, alloc, text.as_bytes(), &mut sink)?;
+    let code = status_of::<WORKERS, G, R>(rt, alloc, text.as_bytes(), marks, gate, &mut sink)?;
     let wanted = one_accumulation(alloc, &ONE_HEAP_LOST, [0, 1, 1])?;
     for number in 0..wanted.len() {
         if sink.string(number) != Some(wanted[number].as_slice()) {
@@ -71,8 +77,9 @@ fn is_right<const WORKERS: u32, R: Threads + Wait + Sync>(
 
 #[test]
 fn an_observation_that_is_written_out(rt: HostRuntime) -> Result<(), Fail> {
-    assert!(rt; is_right::<0, _>(&rt, rt.alloc(), "workers = 0")?);
-    assert!(rt; is_right::<1, _>(&rt, rt.alloc(), "workers = 1")?);
-    assert!(rt; is_right::<4, _>(&rt, rt.alloc(), "workers = 4")?);
+    let marks = Marks::new();
+    assert!(rt; is_right::<0, _, _>(&rt, rt.alloc(), "workers = 0", &marks, &NoGate)?);
+    assert!(rt; is_right::<1, _, _>(&rt, rt.alloc(), "workers = 1", &marks, &NoGate)?);
+    assert!(rt; is_right::<4, _, _>(&rt, rt.alloc(), "workers = 4", &marks, &NoGate)?);
     Ok(())
 }
